@@ -1,0 +1,4 @@
+pub mod Below
+pub mod Endings
+pub mod Names
+pub mod Parts

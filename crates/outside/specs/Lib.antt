@@ -1,0 +1,6 @@
+pub mod Causes
+pub mod Door
+pub mod Folder
+pub mod Listed
+pub mod Status
+pub mod Told
