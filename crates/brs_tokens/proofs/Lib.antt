@@ -1,0 +1,12 @@
+mod Examples
+mod LengthsLemmas
+mod Longest
+mod LongestText
+mod LongestWord
+mod LongestPiece
+mod NumbersLemmas
+mod Lexing
+mod SpellingLemmas
+mod FirstLemmas
+mod TextsLemmas
+mod TokensLemmas

@@ -1,0 +1,10 @@
+pub mod Answer
+pub mod Classes
+pub mod FirstForm
+pub mod Lengths
+pub mod Numbers
+pub mod Pieces
+pub mod Spelling
+pub mod Texts
+pub mod Tok
+pub mod Tokens
