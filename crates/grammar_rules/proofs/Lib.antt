@@ -1,0 +1,11 @@
+pub mod Lists
+pub mod Meets
+pub mod Repeats
+pub mod Words
+pub mod Good
+pub mod Files
+pub mod Same
+pub mod Separated
+pub mod Endings
+pub mod Rows
+pub mod Prefixes
