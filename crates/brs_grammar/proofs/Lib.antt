@@ -1,0 +1,12 @@
+pub mod Gaps
+pub mod Expressions
+pub mod StatementWords
+pub mod Beginnings
+pub mod Statements
+pub mod Functions
+pub mod Whole
+pub mod PartViews
+pub mod Views
+pub mod FaultExamples
+pub mod TreeExamples
+pub mod Last

@@ -1,0 +1,14 @@
+pub mod Leaves
+pub mod Expressions
+pub mod StatementWords
+pub mod Statements
+pub mod Functions
+pub mod Grammar
+pub mod ReadLeaves
+pub mod ReadExpressions
+pub mod ReadStatementWords
+pub mod ReadStatements
+pub mod ReadFunctions
+pub mod Form
+pub mod Parts
+pub mod View
