@@ -1,0 +1,13 @@
+//! Reading a token list with one token ahead: a cursor over the tokens, and the loops that repeated forms of a grammar are read by.
+#![tactic(auto)]
+
+mod cursor;
+mod ending;
+mod repeat;
+
+pub use cursor::{Cursor, ParseError};
+pub use ending::{EndedTurns, ended};
+pub use repeat::{keep, many, trail};
+
+#[cfg(test)]
+mod tests;
