@@ -1,0 +1,91 @@
+-- What the definitions give for a few files, computed.
+use Rattle.std.proofs.Common.{◌≡◌, ℕ, List, [], ◌∷◌, ◌++◌, pos, refl}
+use Rattle.std.specs.Prelude.{codes, flat_map}
+use Rattle.first_form.specs.declared.tree.FirstMain.{FirstMain}
+use Rattle.first_form.specs.declared.tree.Line.TheVariants as line
+use Rattle.first_form.specs.declared.tree.PrintItem.TheVariants as item
+use Rattle.first_form.specs.declared.tree.Operand.TheVariants as operand
+use Rattle.first_form.specs.declared.tree.Sum.{Sum}
+use Rattle.first_form.specs.declared.tree.Sign.TheVariants.{Plus, Minus}
+use Rattle.std.specs.Fmt.{digits}
+use Rattle.channel_run.specs.FirstText.{first_text}
+
+abbrev empty_main : FirstMain
+empty_main = record { lines = [] }
+
+abbrev number : ℕ → Sum
+number n = record { first = operand.Number (pos n); more = [] }
+
+abbrev name_x : Sum
+name_x = record { first = operand.Name (codes "x"); more = [] }
+
+-- `x = 7` and `print "x="; x; " "; x + 2`
+abbrev sums_main : FirstMain
+sums_main = record {
+  lines = line.Assign (codes "x") (number 7)
+      ∷ line.Print (item.Words (codes "x=") ∷ item.Sum name_x ∷ item.Words (codes " ") ∷ item.Sum (record { first = operand.Name (codes "x"); more = (record { sign = Plus; operand = operand.Number (pos 2) }) ∷ [] }) ∷ [])
+      ∷ [];
+}
+
+-- `print 2147483647 + 1`
+abbrev wrapping_main : FirstMain
+wrapping_main = record {
+  lines = line.Print (item.Sum (record { first = operand.Number (pos 2147483647); more = (record { sign = Plus; operand = operand.Number (pos 1) }) ∷ [] }) ∷ []) ∷ [];
+}
+
+abbrev minus_main : FirstMain
+minus_main = record {
+  lines = line.Print (item.Sum (record { first = operand.Number (pos 0); more = (record { sign = Minus; operand = operand.Number (pos 1) }) ∷ (record { sign = Minus; operand = operand.Number (pos 2) }) ∷ [] }) ∷ []) ∷ [];
+}
+
+-- the texts are lines
+abbrev lines_text : List (List ℕ) → List ℕ
+lines_text lines = flat_map (λ words. words ++ 10 ∷ []) lines
+
+abbrev node : List ℕ
+node = codes "node 1 Node owner 0 parent none children none"
+
+no_turns : first_text empty_main [] 100 ≡ lines_text (codes "end script" ∷ node ∷ [])
+no_turns = refl
+
+one_step : first_text empty_main (1 ∷ []) 100 ≡ lines_text (codes "1 ended" ∷ codes "end main" ∷ node ∷ [])
+one_step = refl
+
+no_step_of_a_turn : first_text empty_main (0 ∷ []) 100 ≡ lines_text (codes "end script" ∷ node ∷ [])
+no_step_of_a_turn = refl
+
+bound_of_none : first_text empty_main (1 ∷ []) 0 ≡ lines_text (codes "end steps" ∷ node ∷ [])
+bound_of_none = refl
+
+bound_of_none_unasked : first_text empty_main (0 ∷ []) 0 ≡ lines_text (codes "end script" ∷ node ∷ [])
+bound_of_none_unasked = refl
+
+eight_steps : first_text sums_main (100 ∷ []) 8 ≡ lines_text (codes "end steps" ∷ node ∷ [])
+eight_steps = refl
+
+nine_steps : first_text sums_main (100 ∷ []) 9 ≡ lines_text (codes "1 print x= 7  9" ∷ codes "end steps" ∷ node ∷ [])
+unfolding digits
+nine_steps = refl
+
+ten_steps : first_text sums_main (100 ∷ []) 10 ≡ lines_text (codes "1 print x= 7  9" ∷ codes "1 ended" ∷ codes "end main" ∷ node ∷ [])
+unfolding digits
+ten_steps = refl
+
+-- the bound isn't met where the script asks for no more steps
+nine_steps_in_turns : first_text sums_main (2 ∷ 6 ∷ 1 ∷ 0 ∷ []) 9 ≡ lines_text (codes "1 print x= 7  9" ∷ codes "end script" ∷ node ∷ [])
+unfolding digits
+nine_steps_in_turns = refl
+
+-- nor where the actor has none left
+ten_steps_and_more : first_text sums_main (4 ∷ 6 ∷ 5 ∷ []) 10 ≡ lines_text (codes "1 print x= 7  9" ∷ codes "1 ended" ∷ codes "end main" ∷ node ∷ [])
+unfolding digits
+ten_steps_and_more = refl
+
+wrapped : first_text wrapping_main (5 ∷ []) 100 ≡ lines_text (codes "1 print -2147483648" ∷ codes "1 ended" ∷ codes "end main" ∷ node ∷ [])
+unfolding digits
+wrapped = refl
+
+-- `print 0 - 1 - 2`, from the left
+to_the_left : first_text minus_main (7 ∷ []) 100 ≡ lines_text (codes "1 print -3" ∷ codes "1 ended" ∷ codes "end main" ∷ node ∷ [])
+unfolding digits
+to_the_left = refl

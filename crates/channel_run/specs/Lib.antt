@@ -1,0 +1,15 @@
+pub mod Command
+pub mod Decimal
+pub mod FirstFiles
+pub mod FirstFolder
+pub mod FirstLines
+pub mod FirstLocals
+pub mod FirstMeaning
+pub mod FirstText
+pub mod Input
+pub mod Listing
+pub mod Manifest
+pub mod Output
+pub mod Script
+pub mod Status
+pub mod Written
