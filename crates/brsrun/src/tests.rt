@@ -144,10 +144,15 @@ fn a_status_is_told_in_one_line(rt: HostRuntime) -> Result<(), Fail> {
         (Status::NoMemory, "brsrun: no memory\n"),
         (Status::NotYet, "brsrun: not yet\n"),
     ];
+    fs::create_dir_all(&rt, "message_test")?;
     for (status, want) in &rows {
-        let mut err = fs::create(&rt, "err")?;
+        let mut err = fs::create(&rt, "message_test/err")?;
         write_message(&mut err, status)?;
-        assert_eq!(rt; fs::read(&rt, "err")?.as_slice(), want.as_bytes());
+        assert_eq!(rt;
+            fs::read(&rt, "message_test/err")?.as_slice(),
+            want.as_bytes()
+        );
     }
+    fs::remove_dir_all(&rt, "message_test")?;
     Ok(())
 }
