@@ -9,7 +9,7 @@ ghost use Rattle.token_cursor.specs.Reads.{Gives, Reads};
 ghost use Rattle.token_cursor.specs.Turns.{Tests};
 
 use brs_tokens::{Token, TokenList};
-use grammar_rules::{Word, same_word, word_of};
+use grammar_rules::{Word, is_name, is_word, same_word, word_of};
 use std::alloc::{AllocError, AllocFailed};
 use std::marker::Model;
 
@@ -126,6 +126,22 @@ impl<'t, 'a> Cursor<'t, 'a> {
         ensures { Gives tok_of (reading.one (spec.same_word word) self.old) result self.new }
     {
         let passes = same_word(word, self.peek());
+        self.take(passes)
+    }
+
+    /// The next token, if it is a name.
+    pub fn expect_name(&mut self) -> Result<Token<'a>, ParseError>
+        ensures { Gives tok_of (reading.one spec.is_name self.old) result self.new }
+    {
+        let passes = is_name(self.peek());
+        self.take(passes)
+    }
+
+    /// The next token, if it is a name or a keyword.
+    pub fn expect_word(&mut self) -> Result<Token<'a>, ParseError>
+        ensures { Gives tok_of (reading.one spec.is_word self.old) result self.new }
+    {
+        let passes = is_word(self.peek());
         self.take(passes)
     }
 

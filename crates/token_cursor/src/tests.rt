@@ -62,6 +62,22 @@ fn repeated_forms_are_read(rt: HostRuntime) -> Result<(), Fail> {
 }
 
 #[test]
+fn names_and_words_are_told_apart(rt: HostRuntime) -> Result<(), Fail> {
+    let alloc = rt.alloc();
+    let Ok(tokens) = lex(alloc, "each.if 1".as_bytes(), 1) else {
+        return Ok(());
+    };
+    let mut cursor = Cursor::new(&tokens);
+    assert!(rt; matches!(cursor.expect_name(), Ok(token) if token.column == 1));
+    assert!(rt; matches!(cursor.expect(Word::Dot), Ok(token) if token.column == 5));
+    assert!(rt; matches!(cursor.expect_name(), Err(ParseError::Fault)));
+    assert!(rt; matches!(cursor.expect_word(), Ok(token) if token.column == 6));
+    assert!(rt; matches!(cursor.expect_word(), Err(ParseError::Fault)));
+    assert_eq!(rt; cursor.left(), 1);
+    Ok(())
+}
+
+#[test]
 fn turns_end_with_the_last(rt: HostRuntime) -> Result<(), Fail> {
     let alloc = rt.alloc();
     let Ok(tokens) = lex(alloc, "a else if b ELSE c".as_bytes(), 1) else {
