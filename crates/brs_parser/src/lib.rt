@@ -1,0 +1,19 @@
+//! The parser of source files: the tree of a token list, or its first fault.
+#![tactic(auto)]
+
+mod fault;
+mod file;
+mod nesting;
+mod source;
+
+pub use fault::SyntaxFault;
+pub use source::{ParseAnswer, parse};
+
+#[cfg(test)]
+mod expression_tests;
+#[cfg(test)]
+mod file_tests;
+#[cfg(test)]
+mod statement_tests;
+#[cfg(test)]
+mod test_sources;
