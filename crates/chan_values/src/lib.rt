@@ -2,17 +2,25 @@
 #![tactic(auto)]
 
 mod bytes;
+mod end_reason;
+mod error_code;
 mod event;
 mod folded;
 mod folder_fault;
 mod key;
+mod measure;
+mod place;
 mod text;
 
 pub use bytes::Bytes;
+pub use end_reason::EndReason;
+pub use error_code::ErrorCode;
 pub use event::Event;
 pub use folded::fold_name;
 pub use folder_fault::FolderFault;
 pub use key::Key;
+pub use measure::Measure;
+pub use place::Place;
 pub use text::Text;
 
 /// Memory ran out. The object of the call is as it was, except where the call says otherwise.
