@@ -39,8 +39,8 @@ pair_keys : (ps : List TreePair) (p : TreePair) → AllKeepKeys (trees (values_o
 pair_keys [] p h k = (k, tt)
 pair_keys (q ∷ ps) p h k = (h.0, pair_keys ps p h.1 k)
 
-pub pair_more : (ps : List TreePair) (p : TreePair) → IsPortable (pairs_of ps) → IsPortable p.tree → IsKeyList (keys_of (ps ++ p ∷ [])) → IsBounded (pairs_of (ps ++ p ∷ [])) → IsPortable (pairs_of (ps ++ p ∷ []))
-pair_more ps p h k l b = record { bounds = b; keys = ((l, keys_for_all (ps ++ p ∷ [])), pair_keys ps p h.keys.1 k.keys) }
+pub pair_more : (ps : List TreePair) (p : TreePair) → IsPortable (pairs_of ps) → IsPortable p.tree → IsKeyList (keys_of ps ++ p.key ∷ []) → IsBounded (pairs_of (ps ++ p ∷ [])) → IsPortable (pairs_of (ps ++ p ∷ []))
+pair_more ps p h k l b = record { bounds = b; keys = ((subst IsKeyList (sym (map-append (λ q. q.key) ps (p ∷ []))) l, keys_for_all (ps ++ p ∷ [])), pair_keys ps p h.keys.1 k.keys) }
 
 -- when there is room for one item more
 item_room : (ts : List Tree) (t : Tree) (d n : ℕ) → d ≡ deepest (trees ts) → n ≡ all_parts (trees ts) → ((max d (depth t) < 64) × (n + parts t < 65536)) ↔ IsBounded (array_of (ts ++ t ∷ []))

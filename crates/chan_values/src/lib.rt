@@ -14,6 +14,7 @@ mod event;
 mod folded;
 mod folder_fault;
 mod key;
+mod keys;
 mod limits;
 mod message;
 mod place;
@@ -47,3 +48,5 @@ pub struct NoMemory;
 
 #[cfg(test)]
 mod tests;
+#[cfg(test)]
+mod value_tests;

@@ -5,6 +5,7 @@ ghost use Rattle.chan_values.specs.Tree.{array_of, pairs_of, keys_of, depth, par
 ghost use Rattle.chan_values.specs.Portable.{IsBounded, IsKeyList, IsPortable};
 ghost use Rattle.chan_values.specs.View.{tree_of, tree_pair_of};
 
+use crate::keys::{comes_after, is_folded};
 use crate::{MAX_DEPTH, MAX_PARTS, Measure, NoMemory, Text, measure};
 use sqlite_items::Items;
 use std::alloc::Global;
@@ -210,9 +211,9 @@ impl PairList {
         }
     }
 
-    /// Adds a pair at the end, for whose bounds `has_room` is the test. After an `Err` nothing has changed.
+    /// Adds a pair at the end, for which `may_follow` and `has_room` are the tests. After an `Err` nothing has changed.
     pub fn push(&mut self, pair: Pair) -> Result<(), NoMemory>
-        requires keys { IsKeyList (keys_of (self.old ++ tree_pair_of pair ∷ [])) }
+        requires keys { IsKeyList (keys_of self.old ++ pair.key ∷ []) }
         requires bounds { IsBounded (pairs_of (self.old ++ tree_pair_of pair ∷ [])) }
         ensures ok { OnOk result (self.new ≡ self.old ++ tree_pair_of pair ∷ []) }
         ensures err { OnErr result (self.new ≡ self.old) }
@@ -234,6 +235,13 @@ impl PairList {
     {
         let one = measure(&pair.value);
         self.depth.max(one.depth) < MAX_DEPTH && self.parts + one.parts < MAX_PARTS
+    }
+
+    /// Whether a pair with this key may stand at the end: the key is folded and above the last one. Takes no memory.
+    pub fn may_follow(&self, key: &Text) -> bool
+        ensures { IsTrue result ↔ IsKeyList (keys_of self.now ++ key.now ∷ []) }
+    {
+        is_folded(key.as_str()) && comes_after(self.pairs.as_slice(), key.as_str())
     }
 
     /// How many pairs there are. Takes no memory.

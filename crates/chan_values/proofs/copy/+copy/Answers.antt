@@ -1,4 +1,5 @@
 use Rattle.std.proofs.Common.{◌∙◌, ◌+◌, [], ◌∷◌, ◌++◌, ap, sym, subst, arith}
+use Rattle.std.proofs.lemmas.List.{map-append}
 use Rattle.chan_values.specs.Tree.{array_of, pairs_of, keys_of}
 use Rattle.chan_values.specs.Portable.{IsBounded, IsKeyList}
 use Rattle.chan_values.specs.View.{tree_of, tree_pair_of}
@@ -39,7 +40,7 @@ copy_pairs-push-requires t c =
     let n = c.loop-pair.pair-index + 1 in
     let all = c.as_slice-pair-items.ensures.portable in
     record {
-      keys = subst (λ ps. IsKeyList (keys_of ps)) s (keys_front c.args.pairs.now n all.keys.0.0);
+      keys = subst IsKeyList (ap keys_of s ∙ map-append (λ p. p.key) c.loop-pair.copy _) (keys_front c.args.pairs.now n all.keys.0.0);
       bounds = subst (λ ps. IsBounded (pairs_of ps)) s (pair_front c.args.pairs.now n all.bounds);
     }
 
