@@ -8,3 +8,6 @@ mod types;
 pub use attribute::{AttributeAnswer, read_attribute};
 pub use conversion::convert;
 pub use types::{FieldType, field_type, opening};
+
+#[cfg(test)]
+mod tests;
