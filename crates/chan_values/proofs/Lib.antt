@@ -1,0 +1,7 @@
+pub mod Walk
+pub mod Lists
+pub mod Fronts
+pub mod Order
+pub mod Inverse
+pub mod Characters
+pub mod Texts
