@@ -1,5 +1,5 @@
 -- What is cut off a text is text: each piece ends where a character does.
-use Rattle.std.proofs.Common.{◌≡◌, ◌≢◌, ℕ, zero, suc, ◌+◌, ◌-◌, ◌<◌, ◌≤◌, ◌⊎◌, inl, inr, Bool, true, false, List, [], ◌∷◌, ◌++◌, length, get_or, take, drop, nat_eq, refl, sym, ap, ◌∙◌, subst, append_assoc, append-nil, length-append, arith}
+use Rattle.std.proofs.Common.{◌≡◌, ℕ, zero, suc, ◌+◌, ◌-◌, ◌<◌, ◌≤◌, ◌⊎◌, inl, inr, Bool, true, false, List, [], ◌∷◌, ◌++◌, length, get_or, take, drop, nat_eq, refl, sym, ap, ◌∙◌, subst, append_assoc, append-nil, length-append, arith}
 use Rattle.std.specs.Prelude.{IsUtf8, nat_lt, codes, slice_index}
 use Rattle.std.specs.List.{list_all}
 use Rattle.std.specs.Str.{IsAscii, IsCharBoundary}
@@ -104,7 +104,6 @@ before-ascii xs ys b small utf8 =
 
 text-text : (slice more : List ℕ) → IsText slice → IsUtf8 (slice ++ more) → IsUtf8 slice
 text-text slice more text utf8 =
-    let inner : List ℕ = 34 ∷ quotes_doubled text.0 in
     let split : slice ++ more ≡ (34 ∷ quotes_doubled text.0) ++ (34 ∷ more) = ap (λ t. t ++ more) text.1 ∙ append_assoc (34 ∷ quotes_doubled text.0) (34 ∷ []) more in
     let front : IsUtf8 (34 ∷ quotes_doubled text.0) = before-ascii (34 ∷ quotes_doubled text.0) more 34 (omega arith) (subst IsUtf8 split utf8) in
     subst IsUtf8 (sym text.1) (IsUtf8-append (34 ∷ quotes_doubled text.0) (34 ∷ []) front (ascii-text (34 ∷ []) refl))

@@ -1,9 +1,9 @@
 -- How bytes are spelled that are cut into their longest pieces.
-use Rattle.std.proofs.Common.{◌≡◌, ◌≢◌, ℕ, zero, suc, ◌+◌, ◌-◌, ◌<◌, ◌≤◌, ◌⊎◌, inl, inr, List, [], ◌∷◌, ◌++◌, length, take, drop, Option, Some, None, Result, Ok, Err, refl, sym, ap, ◌∙◌, subst, append_assoc, append-nil, length-append, arith}
+use Rattle.std.proofs.Common.{◌≡◌, ℕ, zero, suc, ◌+◌, ◌-◌, ◌<◌, ◌≤◌, ◌⊎◌, inl, inr, List, [], ◌∷◌, ◌++◌, length, take, drop, Result, Ok, Err, refl, sym, ap, ◌∙◌, subst, append_assoc, append-nil, length-append, arith}
 use Rattle.std.proofs.Math.Seq.{take-append_seam, drop-append_seam}
-use Rattle.std.proofs.lemmas.List.{take-append-drop, length-drop, length-take-le, take-append-le}
+use Rattle.std.proofs.lemmas.List.{take-append-drop, length-drop, length-take-le}
 use Rattle.brs_tokens.specs.Tok.{Tok}
-use Rattle.brs_tokens.specs.Kinds.{Spells, Begins, IsLongestPiece}
+use Rattle.brs_tokens.specs.Kinds.{IsLongestPiece}
 use Rattle.brs_tokens.specs.FaultTable.{Row}
 use Rattle.brs_tokens.specs.Cuts.{WrittenPiece, slices, Cut, place_behind, tokens_of}
 use Rattle.brs_tokens.specs.Spelling.{piece_at, place_after, fault_at, token_of, with_tokens, spelling_from}
@@ -30,7 +30,6 @@ over-piece : (first_line good : ℕ) (before : List ℕ) (kind : PieceKind) (sli
     → length slice ≤ good → spelling_from good 0 (place_behind first_line before) (slice ++ behind)
     ≡ with_tokens (token_of kind slice (place_behind first_line before)) (spelling_from (good - length slice) 0 (place_behind first_line (before ++ slice)) behind)
 over-piece first_line good before kind slice behind is none fits =
-    let p : Place = place_behind first_line before in
     let some = spells-some kind slice is.spells in
     let size = length-append slice behind in
     spelling-piece good (place_behind first_line before) (slice ++ behind) (record { kind = kind; len = length slice }) (omega arith) (omega arith) (piece-found kind slice behind is none) some
@@ -114,7 +113,6 @@ pub record Outcome (good : ℕ) (bytes : List ℕ) : Type 0 where
 one-further : (good : ℕ) (bytes : List ℕ) (q : Piece) → piece_at bytes ≡ Ok q → q.len ≤ length bytes → q.len ≤ good → Outcome (good - q.len) (drop q.len bytes) → Outcome good bytes
 one-further good bytes q at within fits o =
     let meant = piece-meant bytes q at in
-    let first : WrittenPiece = record { kind = q.kind; slice = take q.len bytes } in
     let size : length (take q.len bytes ++ slices o.pieces) ≡ q.len + length (slices o.pieces) =
     length-append (take q.len bytes) (slices o.pieces) ∙ ap (λ n. n + length (slices o.pieces)) (length-take-le q.len bytes within) in
     let left : (good - q.len) - length (slices o.pieces) ≡ good - length (take q.len bytes ++ slices o.pieces) = omega arith in
@@ -172,8 +170,7 @@ over-short left rest over = by_case over.at
 pub cut-more : (bytes : List ℕ) (pieces : List WrittenPiece) (rest : List ℕ) (q : Piece) → Cut bytes pieces rest → piece_at rest ≡ Ok q
     → Cut bytes (pieces ++ record { kind = q.kind; slice = take q.len rest } ∷ []) (drop q.len rest)
 cut-more bytes [] rest q cut at =
-    let meant = piece-meant rest q at in
-    (
+    let meant = piece-meant rest q at in (
       drop q.len rest,
       cut ∙ sym (take-append-drop q.len rest),
       meant.0,

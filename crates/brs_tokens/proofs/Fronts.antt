@@ -1,12 +1,12 @@
 -- The longest front of a source that is text, and the byte that begins no character.
-use Rattle.std.proofs.Common.{◌≡◌, ◌≢◌, ℕ, zero, suc, ◌+◌, ◌-◌, ◌<◌, ◌≤◌, ◌⊎◌, inl, inr, true, false, List, [], ◌∷◌, ◌++◌, length, get_or, take, drop, refl, sym, ap, ◌∙◌, subst, append_assoc, append-nil, length-append, arith}
+use Rattle.std.proofs.Common.{◌≡◌, ◌≢◌, ℕ, zero, suc, ◌+◌, ◌-◌, ◌<◌, ◌≤◌, ◌⊎◌, inl, inr, true, false, List, [], ◌∷◌, ◌++◌, length, take, drop, refl, sym, ap, ◌∙◌, subst, append_assoc, append-nil, length-append, arith}
 use Rattle.std.specs.Prelude.{IsUtf8}
 use Rattle.std.specs.Char.{encode_utf8}
-use Rattle.std.specs.Str.{is_utf8, IsCharBoundary}
+use Rattle.std.specs.Str.{is_utf8}
 use Rattle.std.specs.Str.Lossy.{utf8_valid_len, valid_len_up_to}
 use Rattle.std.proofs.Math.Seq.{take-append_seam, drop-append_seam, take-append-add}
 use Rattle.std.proofs.lemmas.Bool.{false≢true}
-use Rattle.std.proofs.lemmas.List.{take-append-drop, length-drop, length-take-le, take_all, nil_from_length, take-append-le}
+use Rattle.std.proofs.lemmas.List.{take-append-drop, length-take-le}
 use Rattle.std.proofs.lemmas.Str.{IsUtf8-nil, IsUtf8-append, IsUtf8-encode, length-le-encodes, IsUtf8-drop, IsUtf8-from_is_utf8, is_utf8-from_IsUtf8, IsCharBoundary-from_take}
 use Rattle.brs_tokens.specs.Kinds.{Begins}
 use Rattle.brs_tokens.specs.FaultTable.{IsCharacter}
@@ -24,7 +24,7 @@ front-up_to : (bs : List ℕ) (k : ℕ) → (valid_len_up_to bs k ≤ k) × IsUt
 front-up_to bs zero = (omega arith, IsUtf8-nil, λ m l u utf8. absurd (omega arith))
 front-up_to bs (suc k) =
     elim (is_utf8 (take (suc k) bs)) as (λ t. (is_utf8 (take (suc k) bs) ≡ t) → (valid_len_up_to bs (suc k) ≤ suc k) × IsUtf8 (take (valid_len_up_to bs (suc k)) bs)
-        × ((m : ℕ) → valid_len_up_to bs (suc k) < m → m ≤ suc k → IsUtf8 (take m bs) → ⊥)) [
+    × ((m : ℕ) → valid_len_up_to bs (suc k) < m → m ≤ suc k → IsUtf8 (take m bs) → ⊥)) [
       | true ↦ λ h. rw h (omega arith, IsUtf8-from_is_utf8 (take (suc k) bs) h, λ m l u utf8. absurd (omega arith))
       | false ↦ λ h.
           let less = front-up_to bs k in

@@ -1,13 +1,13 @@
 -- What is a piece of a kind spells a piece of that kind.
-use Rattle.std.proofs.Common.{◌≡◌, ◌≢◌, ℕ, zero, suc, ◌+◌, ◌<◌, ◌≤◌, ◌⊎◌, inl, inr, Bool, true, false, cond, List, [], ◌∷◌, ◌++◌, length, get_or, take, drop, Some, None, refl, sym, ap, ◌∙◌, subst, append-nil, arith}
+use Rattle.std.proofs.Common.{◌≡◌, ◌≢◌, ℕ, suc, ◌+◌, ◌⊎◌, inl, inr, Bool, true, false, cond, List, [], ◌∷◌, ◌++◌, take, drop, Some, refl, sym, ap, ◌∙◌, subst, append-nil, arith}
 use Rattle.std.specs.Prelude.{◌&&◌, ◌||◌, ◌==◌, codes, slice_index}
 use Rattle.std.specs.List.{prefix_len, list_all}
 use Rattle.std.proofs.lemmas.Bool.{false≢true, and_parts, and_from}
 use Rattle.std.proofs.lemmas.Bool.Decides.{eqb_tells}
 use Rattle.std.proofs.lemmas.List.{take-append-drop}
 use Rattle.brs_tokens.specs.Classes.{is_blank, stays_in_line, is_digit, is_hex_digit, begins_name, is_name_byte}
-use Rattle.brs_tokens.specs.Pieces.{piece_kind, where_, is_empty, is_digits, is_hex_end, is_text_end, is_word, is_keyword, is_sign, word_kind}
-use Rattle.brs_tokens.specs.Kinds.{AreAll, AreSome, IsName, quotes_doubled, Spells}
+use Rattle.brs_tokens.specs.Pieces.{piece_kind, where_, is_empty, is_digits, is_hex_end, is_text_end, is_word, is_keyword, word_kind}
+use Rattle.brs_tokens.specs.Kinds.{AreAll, IsName, quotes_doubled, Spells}
 use Rattle.brs_tokens.proofs.Longest.{run-passes}
 use Rattle.brs_tokens.proofs.LongestPiece.{IsOther, IsUnnamed, IsUndigited, kind-blank, kind-newline, kind-comment, kind-word, kind-decimal, kind-hex, kind-text, kind-sign}
 use Rattle.brs_tokens.specs.declared.piece.PieceKind.{PieceKind}
@@ -49,7 +49,6 @@ whole_name name kind is rem false word e = subst (λ k. Spells k name) e (is, wo
 word-spells : (b : ℕ) (bs : List ℕ) (kind : PieceKind) → begins_name b ≡ true → word_kind (b ∷ bs) ≡ Some kind → Spells kind (b ∷ bs)
 unfolding word_kind
 word-spells b bs kind begins e =
-    let n = prefix_len is_name_byte (b ∷ bs) in
     let split = take-append-drop (prefix_len is_name_byte (b ∷ bs)) (b ∷ bs) in
     elim (is_word (codes "rem") (take (prefix_len is_name_byte (b ∷ bs)) (b ∷ bs))) as (λ t. (is_word (codes "rem") (take (prefix_len is_name_byte (b ∷ bs)) (b ∷ bs)) ≡ t) → Spells kind (b ∷ bs)) [
       | true ↦ λ rem.

@@ -1,18 +1,17 @@
 -- The definitions of pieces, faults and places, by hand on short texts.
-use Rattle.std.proofs.Common.{◌≡◌, ◌≢◌, ℕ, List, [], ◌∷◌, ◌++◌, Option, Some, None, inl, inr, true, refl}
+use Rattle.std.proofs.Common.{◌≡◌, [], ◌∷◌, ◌++◌, Some, inl, inr, refl}
 use Rattle.std.specs.Prelude.{codes}
 use Rattle.std.proofs.lemmas.Bool.{false≢true}
 use Rattle.brs_tokens.specs.Pieces.{piece_kind, word_kind, is_keyword, is_sign}
-use Rattle.brs_tokens.specs.Spelling.{longest_within, begins_float}
+use Rattle.brs_tokens.specs.Spelling.{longest_within}
 use Rattle.brs_tokens.specs.Kinds.{Spells, IsLongestPiece}
 use Rattle.brs_tokens.specs.FaultTable.{Row}
 use Rattle.brs_tokens.specs.Cuts.{place_behind}
 use Rattle.brs_tokens.specs.declared.piece.Piece.{Piece}
-use Rattle.brs_tokens.specs.declared.piece.PieceKind.{PieceKind}
-use Rattle.brs_tokens.specs.declared.piece.PieceKind.TheVariants.{Blank, Comment, Token}
+use Rattle.brs_tokens.specs.declared.piece.PieceKind.TheVariants.{Comment, Token}
 use Rattle.brs_tokens.specs.declared.place.Place.{Place}
 use Rattle.brs_tokens.specs.declared.token.TokenKind.TheVariants.{Name, Number, Text, Sign}
-use Rattle.brs_tokens.specs.declared.lex_fault.LexKind.TheVariants.{OpenText, FloatLiteral}
+use Rattle.brs_tokens.specs.declared.lex_fault.LexKind.TheVariants.{FloatLiteral}
 use Rattle.brs_tokens.proofs.KindsLemmas.{spells-kind}
 use Rattle.brs_tokens.proofs.KindsConverse.{cons-some}
 use Rattle.brs_tokens.proofs.LongestKinds.{longest-meant}

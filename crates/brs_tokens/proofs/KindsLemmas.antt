@@ -1,17 +1,16 @@
 -- What spells a piece of a kind is a piece of that kind.
-use Rattle.std.proofs.Common.{◌≡◌, ◌≢◌, ℕ, zero, suc, ◌+◌, ◌<◌, ◌≤◌, ◌⊎◌, inl, inr, Bool, true, false, cond, List, [], ◌∷◌, ◌++◌, length, take, drop, map, Option, Some, None, nat_eq, refl, sym, ap, ◌∙◌, subst, append_assoc, append-nil, arith}
-use Rattle.std.specs.Prelude.{◌&&◌, ◌||◌, ◌==◌, not, codes, slice_index}
+use Rattle.std.proofs.Common.{◌≡◌, ◌≢◌, ℕ, ◌⊎◌, inl, inr, Bool, true, false, cond, List, [], ◌∷◌, ◌++◌, length, take, drop, Option, Some, refl, sym, ap, ◌∙◌, subst, append-nil, arith}
+use Rattle.std.specs.Prelude.{◌||◌, ◌==◌, not, codes, slice_index}
 use Rattle.std.specs.List.{prefix_len, list_all, list_any}
 use Rattle.std.specs.Str.{bytes_eq}
 use Rattle.std.proofs.Math.Seq.{take-append_seam, drop-append_seam}
 use Rattle.std.proofs.lemmas.Bool.{false≢true, and_parts, and_from}
 use Rattle.std.proofs.lemmas.Bool.Decides.{nat_tests, eqb_tells}
-use Rattle.std.proofs.lemmas.List.Folds.{list_all-map}
 use Rattle.std.proofs.lemmas.Slice.Eq.{bytes_eq-Decides}
 use Rattle.chan_values.specs.Folded.{folded, folded_byte}
 use Rattle.brs_tokens.specs.Classes.{is_among, is_blank, stays_in_line, is_digit, is_hex_digit, begins_name, is_name_byte}
 use Rattle.brs_tokens.specs.Pieces.{piece_kind, where_, is_empty, is_digits, is_hex_end, is_text_end, is_word, is_keyword, is_sign, word_kind}
-use Rattle.brs_tokens.specs.Kinds.{AreAll, AreSome, IsSpace, IsName, IsRem, IsComment, IsHexadecimal, IsNumber, quotes_doubled, IsText, Spells}
+use Rattle.brs_tokens.specs.Kinds.{AreAll, AreSome, IsName, IsRem, IsComment, IsNumber, quotes_doubled, IsText, Spells}
 use Rattle.brs_tokens.proofs.LongestPiece.{IsOther, IsUnnamed, IsUndigited, kind-blank, kind-newline, kind-comment, kind-word, kind-decimal, kind-hex, kind-text, kind-sign}
 use Rattle.brs_tokens.proofs.LongestText.{end-plain}
 use Rattle.brs_tokens.specs.declared.piece.PieceKind.{PieceKind}
@@ -62,9 +61,6 @@ plain_name : (bytes : List ℕ) → is_keyword bytes ≡ false → is_word (code
 plain_name bytes word rem = rw (rem, word) refl
 
 -- the word `rem` is no keyword
-abbrev is_rem_keyword : List ℕ → Bool
-is_rem_keyword f = is_keyword f
-
 rem-folded : (name : List ℕ) → IsRem name → folded name ≡ codes "rem"
 rem-folded name rem = sym ((bytes_eq-Decides (codes "rem") (folded name)).0 rem)
 

@@ -1,7 +1,7 @@
 -- The longest piece, as it is computed, is the longest of any kind.
-use Rattle.std.proofs.Common.{◌≡◌, ◌≢◌, ℕ, zero, suc, ◌+◌, ◌-◌, ◌<◌, ◌≤◌, ◌⊎◌, inl, inr, List, [], ◌∷◌, ◌++◌, length, take, drop, Option, Some, None, refl, sym, ap, ◌∙◌, subst, length-append, arith}
+use Rattle.std.proofs.Common.{◌≡◌, ℕ, zero, suc, ◌+◌, ◌-◌, ◌<◌, ◌≤◌, ◌⊎◌, inl, inr, List, [], ◌∷◌, ◌++◌, length, take, drop, Option, Some, None, refl, sym, ap, ◌∙◌, subst, length-append, arith}
 use Rattle.std.proofs.Math.Seq.{take-append_seam, take-append-add}
-use Rattle.std.proofs.lemmas.List.{take-append-drop, length-drop, length-take-le, nil_from_length}
+use Rattle.std.proofs.lemmas.List.{take-append-drop, length-drop, length-take-le}
 use Rattle.brs_tokens.specs.Pieces.{piece_kind}
 use Rattle.brs_tokens.specs.Kinds.{Spells, Begins, IsLongestPiece}
 use Rattle.brs_tokens.specs.Spelling.{longest_within, longest_piece}
@@ -67,7 +67,6 @@ longest-meant bytes p e =
     longest within other (b ∷ more) rest split s =
         let size : length (take p.len bytes) ≡ p.len = length-take-le p.len bytes within in
         let whole : bytes ≡ take p.len bytes ++ ((b ∷ more) ++ rest) = sym (take-append-drop p.len bytes) ∙ ap (λ t. take p.len bytes ++ t) split in
-        let n : ℕ = length (take p.len bytes) + length (b ∷ more) in
         let front : take (length (take p.len bytes) + length (b ∷ more)) bytes ≡ take p.len bytes ++ (b ∷ more) =
         ap (take (length (take p.len bytes) + length (b ∷ more))) whole ∙ take-append-add (take p.len bytes) ((b ∷ more) ++ rest) (length (b ∷ more))
         ∙ ap (λ t. take p.len bytes ++ t) (take-append_seam (b ∷ more) rest) in

@@ -19,7 +19,7 @@ place-byte first_line before b =
     sum_by-append (λ x. cond (x == 10) 1 0) before (b ∷ []) in
     let back : reverse (before ++ b ∷ []) ≡ b ∷ reverse before = reverse-append before (b ∷ []) in
     let whole : place_behind first_line (before ++ b ∷ [])
-        ≡ record { line = first_line + (count_by (λ x. x == 10) before + count_by (λ x. x == 10) (b ∷ [])); column = 1 + prefix_len stays_in_line (b ∷ reverse before) } =
+    ≡ record { line = first_line + (count_by (λ x. x == 10) before + count_by (λ x. x == 10) (b ∷ [])); column = 1 + prefix_len stays_in_line (b ∷ reverse before) } =
     place-same _ _ _ _ (ap (λ n. first_line + n) lines) (ap (λ t. 1 + prefix_len stays_in_line t) back) in
     elim (eqb_tells b 10) [
       | inl is ↦ whole ∙ rw is.0 (place-same _ _ _ _ (omega arith) (omega arith))

@@ -1,19 +1,19 @@
 -- The rows of the table of lexical faults, as they are computed.
-use Rattle.std.proofs.Common.{◌≡◌, ◌≢◌, ℕ, zero, suc, ◌+◌, ◌<◌, ◌≤◌, ◌⊎◌, inl, inr, Bool, true, false, List, [], ◌∷◌, ◌++◌, length, take, drop, Option, Some, None, Result, Ok, Err, refl, sym, ap, ◌∙◌, subst, append_assoc, append-nil, arith}
-use Rattle.std.specs.Prelude.{IsUtf8, ◌&&◌, ◌||◌, ◌==◌, nat_lt, codes, slice_index}
-use Rattle.std.specs.Char.{IsScalar, encode_utf8}
+use Rattle.std.proofs.Common.{◌≡◌, ◌≢◌, ℕ, zero, suc, ◌<◌, ◌≤◌, ◌⊎◌, inl, inr, Bool, true, false, List, [], ◌∷◌, ◌++◌, length, take, drop, Option, Some, None, Ok, Err, refl, sym, ap, ◌∙◌, subst, append_assoc, append-nil, arith}
+use Rattle.std.specs.Prelude.{IsUtf8, ◌&&◌, ◌||◌, ◌==◌, nat_lt, slice_index}
+use Rattle.std.specs.Char.{encode_utf8}
 use Rattle.std.specs.Str.{encode_utf8_all, IsAscii}
-use Rattle.std.specs.List.{prefix_len, list_all}
+use Rattle.std.specs.List.{prefix_len}
 use Rattle.std.proofs.Math.Seq.{take-append_seam, drop-append_seam}
-use Rattle.std.proofs.lemmas.Bool.{false≢true, and_parts, and_from, or_cases, ne_eqb}
+use Rattle.std.proofs.lemmas.Bool.{false≢true, and_parts, and_from, or_cases}
 use Rattle.std.proofs.lemmas.Bool.Decides.{nat_tests, eqb_tells}
 use Rattle.std.proofs.lemmas.List.{take-append-drop, length-take-le}
 use Rattle.std.proofs.lemmas.Str.{IsUtf8-from_ascii}
 use Rattle.brs_tokens.specs.Classes.{is_digit}
 use Rattle.brs_tokens.specs.Numbers.{is_too_large}
-use Rattle.brs_tokens.specs.Pieces.{piece_kind, where_, is_sign, is_text_end}
+use Rattle.brs_tokens.specs.Pieces.{is_sign, is_text_end}
 use Rattle.brs_tokens.specs.Kinds.{AreAll, AreSome, IsText, Spells, Begins, IsLongestPiece}
-use Rattle.brs_tokens.specs.FaultTable.{IsCharacter, IsPointed, IsScaled, IsFloat, IsOpenText, BeginsSlash, IsTooLarge, Row}
+use Rattle.brs_tokens.specs.FaultTable.{IsCharacter, IsPointed, IsFloat, IsOpenText, BeginsSlash, Row}
 use Rattle.brs_tokens.specs.Spelling.{longest_piece, begins_float, begins_exponent, stray_kind, is_number, piece_at}
 use Rattle.brs_tokens.specs.declared.piece.Piece.{Piece}
 use Rattle.brs_tokens.specs.declared.piece.PieceKind.{PieceKind}
@@ -23,10 +23,10 @@ use Rattle.brs_tokens.specs.declared.lex_fault.LexKind.{LexKind}
 use Rattle.brs_tokens.specs.declared.lex_fault.LexKind.TheVariants.{NotUtf8, BadCharacter, OpenText, FloatLiteral, Slash, NumberTooLarge}
 use Rattle.brs_tokens.proofs.Longest.{run-passes, run-within}
 use Rattle.brs_tokens.proofs.LongestPiece.{IsUndigited, kind-text, kind-sign}
-use Rattle.brs_tokens.proofs.TokensLemmas.{IsPiece, longest-is, kind-ascii, piece_at-longest}
+use Rattle.brs_tokens.proofs.TokensLemmas.{kind-ascii, piece_at-longest}
 use Rattle.brs_tokens.proofs.KindsLemmas.{run-over, spells-kind}
-use Rattle.brs_tokens.proofs.KindsConverse.{kind-spells, nothing-made, where_-some, either_byte}
-use Rattle.brs_tokens.proofs.LongestKinds.{spells-some, longest-found, longest-meant, none-meant, none-found}
+use Rattle.brs_tokens.proofs.KindsConverse.{nothing-made, where_-some, either_byte}
+use Rattle.brs_tokens.proofs.LongestKinds.{longest-found, longest-meant, none-meant, none-found}
 
 -- characters
 
@@ -181,20 +181,26 @@ unfolding is_sign
 float-piece bs b = elim b.is [ inl p ↦ at_point p.digits p refl | inr s ↦ at_digits s.digits (s.letter ∷ (s.sign ++ s.last ∷ [])) s.some s.bytes_are ]
   where
     at_digits : (digits more : List ℕ) → AreSome is_digit digits → b.front ≡ digits ++ more → (kind : PieceKind) × Begins (Spells kind) bs
-    at_digits digits more some is = (Token Number, record {
-      front = digits;
-      behind = more ++ b.behind;
-      bytes_are = b.bytes_are ∙ ap (λ t. t ++ b.behind) is ∙ append_assoc digits more b.behind;
-      is = record { digits = digits; end = []; bytes_are = sym (append-nil digits); written = inl some; ends = inl refl };
-    })
+    at_digits digits more some is = (
+      Token Number,
+      record {
+        front = digits;
+        behind = more ++ b.behind;
+        bytes_are = b.bytes_are ∙ ap (λ t. t ++ b.behind) is ∙ append_assoc digits more b.behind;
+        is = record { digits = digits; end = []; bytes_are = sym (append-nil digits); written = inl some; ends = inl refl };
+      },
+    )
 
     at_point : (digits : List ℕ) (p : IsPointed b.front) → p.digits ≡ digits → (kind : PieceKind) × Begins (Spells kind) bs
-    at_point [] p none = (Token Sign, record {
-      front = 46 ∷ [];
-      behind = p.last ∷ b.behind;
-      bytes_are = b.bytes_are ∙ ap (λ t. t ++ b.behind) (p.bytes_are ∙ ap (λ t. t ++ 46 ∷ p.last ∷ []) none);
-      is = refl;
-    })
+    at_point [] p none = (
+      Token Sign,
+      record {
+        front = 46 ∷ [];
+        behind = p.last ∷ b.behind;
+        bytes_are = b.bytes_are ∙ ap (λ t. t ++ b.behind) (p.bytes_are ∙ ap (λ t. t ++ 46 ∷ p.last ∷ []) none);
+        is = refl;
+      },
+    )
     at_point (d ∷ digits) p some =
         at_digits (d ∷ digits) (46 ∷ p.last ∷ []) (λ none. absurd (cons_some none), subst (AreAll is_digit) some p.all) (p.bytes_are ∙ ap (λ t. t ++ 46 ∷ p.last ∷ []) some)
       where
@@ -227,9 +233,6 @@ no_float : (bs : List ℕ) → (Begins IsFloat bs → ⊥) → begins_float bs �
 no_float bs never = not_true (begins_float bs) (λ e. never (float-meant bs e))
 
 -- where the row holds, the fault is computed
-
-two_at : (bs : List ℕ) (p : Piece) → longest_piece bs ≡ None → longest_piece bs ≡ Some p → ⊥
-two_at bs p none some = absurd (cc)
 
 -- nothing that begins with a quote is a piece but a text
 quote-text : (kind : PieceKind) (bs : List ℕ) → Spells kind (34 ∷ bs) → IsText (34 ∷ bs)
@@ -333,12 +336,15 @@ stray_at (b ∷ bs) some char none = elim (eqb_tells b 47) [
     | inl is ↦
         rw (other.0, is.0) ((record { front = 34 ∷ []; behind = bs; bytes_are = ap (λ t. t ∷ bs) is.1; is = refl }, none-meant (b ∷ bs) none (Token Text)), λ same. absurd (cc))
     | inr also ↦
-        rw (other.0, also.0) ((
-          char,
-          none-meant (b ∷ bs) none,
-          λ slash. other.1 (first_is b bs 47 (begins-with 47 (b ∷ bs) slash)),
-          λ text. also.1 (first_is b bs 34 (begins-with 34 (b ∷ bs) text.0)),
-        ), λ same. absurd (cc))
+        rw (other.0, also.0) (
+          (
+            char,
+            none-meant (b ∷ bs) none,
+            λ slash. other.1 (first_is b bs 47 (begins-with 47 (b ∷ bs) slash)),
+            λ text. also.1 (first_is b bs 34 (begins-with 34 (b ∷ bs) text.0)),
+          ),
+          λ same. absurd (cc),
+        )
   ]
 ]
   where
@@ -355,10 +361,13 @@ fault-meant bs kind some char e = by_float (begins_float bs) refl
     by_size p float found true large =
         let parts = and_parts (is_number p.kind) (is_too_large (take p.len bs)) large in
         let longest = subst (λ k. IsLongestPiece k (take p.len bs) (drop p.len bs)) (number_is p.kind parts.0) (longest-meant bs p found) in
-        same_kind NumberTooLarge (at-large bs p float found large) ((
-          record { number = take p.len bs; behind = drop p.len bs; bytes_are = sym (take-append-drop p.len bs); longest = longest; too_large = parts.1 },
-          λ b. false≢true (sym float ∙ float-found bs b),
-        ), λ same. absurd (cc))
+        same_kind NumberTooLarge (at-large bs p float found large) (
+          (
+            record { number = take p.len bs; behind = drop p.len bs; bytes_are = sym (take-append-drop p.len bs); longest = longest; too_large = parts.1 },
+            λ b. false≢true (sym float ∙ float-found bs b),
+          ),
+          λ same. absurd (cc),
+        )
     by_size p float found false fits = let at = at-piece bs p float found fits in absurd (cc)
 
     by_piece : begins_float bs ≡ false → (found : Option Piece) → longest_piece bs ≡ found → IsRowAt bs kind
@@ -407,13 +416,16 @@ piece-found kind piece behind is none =
     fits : (is_number kind && is_too_large (take (length piece) (piece ++ behind))) ≡ true → ⊥
     fits large =
         let parts = and_parts (is_number kind) (is_too_large (take (length piece) (piece ++ behind))) large in
-        none NumberTooLarge (record {
-          number = piece;
-          behind = behind;
-          bytes_are = refl;
-          longest = subst (λ k. IsLongestPiece k piece behind) (number_is kind parts.0) is;
-          too_large = ap is_too_large (sym (take-append_seam piece behind)) ∙ parts.1;
-        }, none FloatLiteral)
+        none NumberTooLarge (
+          record {
+            number = piece;
+            behind = behind;
+            bytes_are = refl;
+            longest = subst (λ k. IsLongestPiece k piece behind) (number_is kind parts.0) is;
+            too_large = ap is_too_large (sym (take-append_seam piece behind)) ∙ parts.1;
+          },
+          none FloatLiteral,
+        )
 
 -- where a row other than the first holds, a character begins
 pub row-begins : (kind : LexKind) (bs : List ℕ) → kind ≢ NotUtf8 → Row kind bs → Begins IsCharacter bs

@@ -1,13 +1,12 @@
 -- The spelling of a source is what its longest pieces and the table of lexical faults say.
-use Rattle.std.proofs.Common.{◌≡◌, ◌≢◌, ℕ, zero, suc, ◌+◌, ◌-◌, ◌<◌, ◌≤◌, ◌⊎◌, inl, inr, List, [], ◌∷◌, ◌++◌, length, get_or, take, drop, Result, Ok, Err, refl, sym, ap, ◌∙◌, subst, append_assoc, append-nil, length-append, arith}
+use Rattle.std.proofs.Common.{◌≡◌, ◌≢◌, ℕ, ◌+◌, ◌-◌, ◌<◌, ◌≤◌, ◌⊎◌, inl, inr, List, [], ◌∷◌, ◌++◌, length, get_or, take, drop, Result, Ok, Err, refl, sym, ap, ◌∙◌, subst, append_assoc, append-nil, length-append, arith}
 use Rattle.std.specs.Prelude.{IsUtf8}
 use Rattle.std.specs.Char.{encode_utf8}
-use Rattle.std.specs.List.{flat_map}
 use Rattle.std.specs.Str.Lossy.{utf8_valid_len}
 use Rattle.std.proofs.Math.Seq.{take-append_seam, drop-append_seam}
 use Rattle.std.proofs.lemmas.Bool.Decides.{eqb_tells}
 use Rattle.std.proofs.lemmas.Grind.{flat_map-append}
-use Rattle.std.proofs.lemmas.List.{take-append-drop, length-drop, length-take-le, take_all, nil_from_length}
+use Rattle.std.proofs.lemmas.List.{take-append-drop, length-drop, length-take-le, take_all}
 use Rattle.std.proofs.lemmas.Str.{IsUtf8-nil, utf8_valid_len-IsUtf8}
 use Rattle.brs_tokens.specs.Tok.{Tok}
 use Rattle.brs_tokens.specs.Kinds.{Begins}
@@ -204,8 +203,6 @@ reach-bad src o over = by_case over.at
         ⊎ ((q : Piece) × (piece_at o.rest ≡ Ok q) × (0 < good_len src - length (slices o.pieces)) × (good_len src - length (slices o.pieces) < q.len)) → ReachTo src (utf8_valid_len src)
     by_case (inl none) = record { pieces = o.pieces; rest = o.rest; cut = o.cut; reach = omega (arith, cut-size src o.pieces, mark-fits src) }
     by_case (inr (q, at, more, less)) =
-        let last : WrittenPiece = record { kind = q.kind; slice = take q.len o.rest } in
-        let size = cut-size src (o.pieces ++ last ∷ []) in
         let sum : slices (o.pieces ++ record { kind = q.kind; slice = take q.len o.rest } ∷ []) ≡ slices o.pieces ++ (take q.len o.rest ++ []) =
         flat_map-append (λ (p : WrittenPiece). p.slice) o.pieces (record { kind = q.kind; slice = take q.len o.rest } ∷ []) in
         let fits = piece-within o.rest q at in

@@ -1,7 +1,7 @@
 -- The table of lexical faults: what holds of the bytes from the fault on.
 use Rattle.std.specs.Prelude.{◌≡◌, ◌≢◌, ◌⊎◌, ℕ, true, List, [], ◌∷◌, ◌++◌, codes}
 use Rattle.std.specs.Char.{IsScalar, encode_utf8}
-use Rattle.brs_tokens.specs.Classes.{quote, dot, slash, is_among, is_digit}
+use Rattle.brs_tokens.specs.Classes.{quote, dot, slash, is_digit}
 use Rattle.brs_tokens.specs.Numbers.{is_too_large}
 use Rattle.brs_tokens.specs.Kinds.{AreAll, AreSome, IsText, Spells, Begins, IsLongestPiece}
 use Rattle.brs_tokens.specs.declared.piece.PieceKind.{PieceKind}

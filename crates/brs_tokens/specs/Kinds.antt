@@ -2,7 +2,7 @@
 -- Source: BrightScript Language Reference, "Identifiers", "Reserved Words", "REM", "Literals (Constants)" and "Operators".
 use Rattle.std.specs.Prelude.{◌≡◌, ◌≢◌, ◌⊎◌, ℕ, Bool, true, false, ◌==◌, if◌then◌else◌, List, [], ◌∷◌, ◌++◌, slice_index, codes}
 use Rattle.std.specs.List.{list_all, flat_map}
-use Rattle.brs_tokens.specs.Classes.{line_feed, quote, ampersand, apostrophe, is_among, is_blank, stays_in_line, is_digit, is_hex_digit, begins_name, is_name_byte}
+use Rattle.brs_tokens.specs.Classes.{line_feed, quote, ampersand, apostrophe, is_blank, stays_in_line, is_digit, is_hex_digit, begins_name, is_name_byte}
 use Rattle.brs_tokens.specs.Pieces.{is_word, is_keyword, is_sign}
 use Rattle.brs_tokens.specs.declared.piece.PieceKind.{PieceKind}
 use Rattle.brs_tokens.specs.declared.piece.PieceKind.TheVariants.{Blank, Comment, Token}
