@@ -7,12 +7,14 @@ use Rattle.std.specs.Str.Lossy.{utf8_valid_len}
 use Rattle.brs_tokens.specs.Tok.{Tok}
 use Rattle.brs_tokens.specs.Pieces.{is_keyword, is_sign, word_kind, piece_kind}
 use Rattle.brs_tokens.specs.Spelling.{longest_within, piece_at, spelling_from, spelling}
+use Rattle.brs_tokens.specs.Cuts.{AreTokens, IsFirstFault}
 use Rattle.brs_tokens.specs.FirstForm.{are_first_pieces, is_first_form}
 use Rattle.brs_tokens.specs.declared.lex_fault.LexFault.{LexFault}
 use Rattle.brs_tokens.specs.declared.lex_fault.LexKind.{LexKind}
 use Rattle.brs_tokens.specs.declared.lex_fault.LexKind.TheVariants.{NotUtf8, BadCharacter, OpenText, FloatLiteral, Slash, NumberTooLarge}
 use Rattle.brs_tokens.specs.declared.token.TokenKind.{TokenKind}
 use Rattle.brs_tokens.specs.declared.token.TokenKind.TheVariants.{Newline, Name, Keyword, Number, Text, Sign}
+use Rattle.brs_tokens.proofs.Spelled.{spelled-tokens, spelled-fault}
 
 abbrev fault : LexKind → ℕ → ℕ → Result (List Tok) LexFault
 fault kind line column = Err (record { kind = kind; line = line; column = column })
@@ -87,3 +89,13 @@ first_forms : map is_first_form (codes "x=2147483647" ∷ codes "x=2147483648" �
     ≡ true ∷ false ∷ false ∷ false ∷ false ∷ false ∷ true ∷ []
 unfolding are_first_pieces longest_within piece_kind word_kind is_keyword is_sign
 first_forms = refl
+
+-- the same by the definitions: a comment is no token, and which of two faults is the first
+tokens_without_comment : AreTokens (codes "a.rem b") 1 (tok Name (codes "a") 1 1 ∷ tok Sign (codes ".") 1 2 ∷ [])
+tokens_without_comment = spelled-tokens (codes "a.rem b") 1 _ comment_after_a_dot
+
+fault_inside_a_text : IsFirstFault (34 ∷ 255 ∷ 34 ∷ []) 1 (record { kind = NotUtf8; line = 1; column = 2 })
+fault_inside_a_text = spelled-fault (34 ∷ 255 ∷ 34 ∷ []) 1 _ not_utf8
+
+fault_of_the_quote : IsFirstFault (34 ∷ 255 ∷ 10 ∷ []) 1 (record { kind = OpenText; line = 1; column = 1 })
+fault_of_the_quote = spelled-fault (34 ∷ 255 ∷ 10 ∷ []) 1 _ open_before_not_utf8

@@ -34,28 +34,28 @@ pub record IsUndigited (b : ℕ) : Type 0 where
 one_more : (kind : PieceKind) (n : ℕ) → Some (piece kind (suc n)) ≡ Some (piece kind (1 + n))
 one_more kind n = let e : suc n ≡ 1 + n = omega arith in rw e refl
 
-kind-blank : (b : ℕ) (cs : List ℕ) → is_blank b ≡ true → piece_kind (b ∷ cs) ≡ where_ (is_empty cs) Blank
+pub kind-blank : (b : ℕ) (cs : List ℕ) → is_blank b ≡ true → piece_kind (b ∷ cs) ≡ where_ (is_empty cs) Blank
 unfolding piece_kind
 kind-blank b cs h = rw h refl
 
 pub piece-blank : (b : ℕ) (bs : List ℕ) → is_blank b ≡ true → longest_piece (b ∷ bs) ≡ Some (piece Blank 1)
 piece-blank b bs h = longest-some b bs is_empty Blank 0 (λ cs. kind-blank b cs h) (alone bs)
 
-kind-newline : (cs : List ℕ) → piece_kind (10 ∷ cs) ≡ where_ (is_empty cs) (Token Newline)
+pub kind-newline : (cs : List ℕ) → piece_kind (10 ∷ cs) ≡ where_ (is_empty cs) (Token Newline)
 unfolding piece_kind
 kind-newline cs = refl
 
 pub piece-newline : (bs : List ℕ) → longest_piece (10 ∷ bs) ≡ Some (piece (Token Newline) 1)
 piece-newline bs = longest-some 10 bs is_empty (Token Newline) 0 kind-newline (alone bs)
 
-kind-comment : (cs : List ℕ) → piece_kind (39 ∷ cs) ≡ where_ (list_all stays_in_line cs) Comment
+pub kind-comment : (cs : List ℕ) → piece_kind (39 ∷ cs) ≡ where_ (list_all stays_in_line cs) Comment
 unfolding piece_kind
 kind-comment cs = refl
 
 pub piece-comment : (bs : List ℕ) → longest_piece (39 ∷ bs) ≡ Some (piece Comment (1 + prefix_len stays_in_line bs))
 piece-comment bs = longest-some 39 bs (list_all stays_in_line) Comment (prefix_len stays_in_line bs) kind-comment (run stays_in_line bs) ∙ one_more Comment (prefix_len stays_in_line bs)
 
-kind-word : (b : ℕ) (cs : List ℕ) → IsOther b → begins_name b ≡ true → piece_kind (b ∷ cs) ≡ word_kind (b ∷ cs)
+pub kind-word : (b : ℕ) (cs : List ℕ) → IsOther b → begins_name b ≡ true → piece_kind (b ∷ cs) ≡ word_kind (b ∷ cs)
 unfolding piece_kind
 kind-word b cs is h = rw (is.blank, ne_eqb b 10 is.newline, ne_eqb b 39 is.apostrophe, h) refl
 
@@ -69,7 +69,7 @@ piece-word b bs is h = longest-word (b ∷ bs) spells (begins-len b bs h)
     spells zero l = absurd (omega arith)
     spells (suc m) l = kind-word b (take m bs) is h
 
-kind-decimal : (b : ℕ) (cs : List ℕ) → IsUnnamed b → is_digit b ≡ true → piece_kind (b ∷ cs) ≡ where_ (is_digits is_digit cs) (Token Number)
+pub kind-decimal : (b : ℕ) (cs : List ℕ) → IsUnnamed b → is_digit b ≡ true → piece_kind (b ∷ cs) ≡ where_ (is_digits is_digit cs) (Token Number)
 unfolding piece_kind
 kind-decimal b cs is h = rw (is.other.blank, ne_eqb b 10 is.other.newline, ne_eqb b 39 is.other.apostrophe, is.name, h) refl
 
@@ -77,7 +77,7 @@ pub piece-decimal : (b : ℕ) (bs : List ℕ) → IsUnnamed b → is_digit b ≡
 piece-decimal b bs is h =
     longest-some b bs (is_digits is_digit) (Token Number) (digits_len is_digit bs) (λ cs. kind-decimal b cs is h) (digits is_digit bs) ∙ one_more (Token Number) (digits_len is_digit bs)
 
-kind-hex : (cs : List ℕ) → piece_kind (38 ∷ cs) ≡ where_ (is_hex_end cs) (Token Number)
+pub kind-hex : (cs : List ℕ) → piece_kind (38 ∷ cs) ≡ where_ (is_hex_end cs) (Token Number)
 unfolding piece_kind
 kind-hex cs = refl
 
@@ -93,7 +93,7 @@ piece-hex bs = by_len (hex_len bs) refl
     by_len zero e = longest-none 38 bs is_hex_end (Token Number) kind-hex (hex-none bs e)
     by_len (suc n) e = longest-some 38 bs is_hex_end (Token Number) (suc n) kind-hex (hex-some bs n e) ∙ one_more (Token Number) (suc n)
 
-kind-text : (cs : List ℕ) → piece_kind (34 ∷ cs) ≡ where_ (is_text_end cs) (Token Text)
+pub kind-text : (cs : List ℕ) → piece_kind (34 ∷ cs) ≡ where_ (is_text_end cs) (Token Text)
 unfolding piece_kind
 kind-text cs = refl
 
@@ -104,7 +104,7 @@ piece-text bs = by_len (text_len bs) refl
     by_len zero e = longest-none 34 bs is_text_end (Token Text) kind-text (text-none bs e)
     by_len (suc n) e = longest-some 34 bs is_text_end (Token Text) (suc n) kind-text (text-some bs n e) ∙ one_more (Token Text) (suc n)
 
-kind-sign : (b : ℕ) (cs : List ℕ) → IsUndigited b → b ≢ 38 → b ≢ 34 → piece_kind (b ∷ cs) ≡ where_ (is_sign (b ∷ cs)) (Token Sign)
+pub kind-sign : (b : ℕ) (cs : List ℕ) → IsUndigited b → b ≢ 38 → b ≢ 34 → piece_kind (b ∷ cs) ≡ where_ (is_sign (b ∷ cs)) (Token Sign)
 unfolding piece_kind
 kind-sign b cs is amp quote =
     rw (is.unnamed.other.blank, ne_eqb b 10 is.unnamed.other.newline, ne_eqb b 39 is.unnamed.other.apostrophe, is.unnamed.name, is.digit, ne_eqb b 38 amp, ne_eqb b 34 quote) refl

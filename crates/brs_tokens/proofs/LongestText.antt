@@ -55,7 +55,7 @@ hex-none (h ∷ d ∷ bs) e (suc (suc m)) u =
 
 -- texts
 
-end-plain : (b c : ℕ) (bs : List ℕ) → b ≢ 34 → b ≢ 10 → is_text_end (b ∷ c ∷ bs) ≡ is_text_end (c ∷ bs)
+pub end-plain : (b c : ℕ) (bs : List ℕ) → b ≢ 34 → b ≢ 10 → is_text_end (b ∷ c ∷ bs) ≡ is_text_end (c ∷ bs)
 end-plain b c bs q l = grind (arith, nat_tests)
 
 end-last : (b : ℕ) → b ≢ 34 → is_text_end (b ∷ []) ≡ false

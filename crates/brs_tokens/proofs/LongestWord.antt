@@ -63,7 +63,7 @@ word-front bs n m e fits =
     let here : P (prefix_len is_name_byte bs) (prefix_len is_name_byte bs + (m - n)) = word_kind-front bs (m - n) in
     subst (λ t. P n t) sum (subst (λ a. P a (a + (m - n))) e here)
 
-longest_within-at : (bytes : List ℕ) (kind : PieceKind) (n : ℕ) → 0 < n → piece_kind (take n bytes) ≡ Some kind → n ≤ length bytes
+pub longest_within-at : (bytes : List ℕ) (kind : PieceKind) (n : ℕ) → 0 < n → piece_kind (take n bytes) ≡ Some kind → n ≤ length bytes
     → ((m : ℕ) → n < m → m ≤ length bytes → piece_kind (take m bytes) ≡ None) → longest_piece bytes ≡ Some (record { kind = kind; len = n })
 longest_within-at bytes kind zero some found within none = absurd (omega arith)
 longest_within-at bytes kind (suc n) some found within none = longest_within-some bytes kind n (length bytes) found within none

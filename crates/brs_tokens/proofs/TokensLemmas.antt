@@ -56,7 +56,7 @@ unfolding piece_kind
 kind-none b bs past =
     rw (not_blank b past, ne_eqb b 10 (omega arith), ne_eqb b 39 (omega arith), not_name b past, not_digit b past, ne_eqb b 38 (omega arith), ne_eqb b 34 (omega arith), sign-none b bs past) refl
 
-kind-ascii : (b : ℕ) (bs : List ℕ) (kind : PieceKind) → piece_kind (b ∷ bs) ≡ Some kind → b < 128
+pub kind-ascii : (b : ℕ) (bs : List ℕ) (kind : PieceKind) → piece_kind (b ∷ bs) ≡ Some kind → b < 128
 kind-ascii b bs kind e = by_size (grind arith)
   where
     by_size : (b < 128) ⊎ (128 ≤ b) → b < 128
@@ -69,7 +69,7 @@ pub record IsPiece (bytes : List ℕ) (p : Piece) : Type 0 where
   pub within : p.len ≤ length bytes
   pub spells : piece_kind (take p.len bytes) ≡ Some p.kind
 
-longest-is : (k : ℕ) (bytes : List ℕ) (p : Piece) → k ≤ length bytes → longest_within k bytes ≡ Some p → IsPiece bytes p
+pub longest-is : (k : ℕ) (bytes : List ℕ) (p : Piece) → k ≤ length bytes → longest_within k bytes ≡ Some p → IsPiece bytes p
 unfolding longest_within
 longest-is zero bytes p fits e = absurd (cc)
 longest-is (suc k) bytes p fits e =
@@ -81,7 +81,7 @@ longest-is (suc k) bytes p fits e =
       | None ↦ λ h. let e' = rw (h, longest_within) at e in longest-is k bytes p (omega arith) e'
     ] refl
 
-piece_at-longest : (bytes : List ℕ) (p : Piece) → piece_at bytes ≡ Ok p → (longest_piece bytes ≡ Some p) × ((is_number p.kind && is_too_large (take p.len bytes)) ≡ false)
+pub piece_at-longest : (bytes : List ℕ) (p : Piece) → piece_at bytes ≡ Ok p → (longest_piece bytes ≡ Some p) × ((is_number p.kind && is_too_large (take p.len bytes)) ≡ false)
 unfolding piece_at
 piece_at-longest bytes p e =
     elim (begins_float bytes) as (λ t. (begins_float bytes ≡ t) → (longest_piece bytes ≡ Some p) × ((is_number p.kind && is_too_large (take p.len bytes)) ≡ false)) [
@@ -249,7 +249,7 @@ no_mark : (c : Bool) → cond (c && false) 3 0 ≤ 0
 no_mark true = omega arith
 no_mark false = omega arith
 
-mark-within : (src : List ℕ) → mark_len src ≤ length src
+pub mark-within : (src : List ℕ) → mark_len src ≤ length src
 mark-within src = elim (eqb_tells (get_or src 2 0) 0xBF) [
   | inl is ↦ at_most _ (length src) (omega (arith, in_list src 2 (omega (arith, is.1))))
   | inr other ↦ let none : mark_len src ≤ 0 = rw other.0 (no_mark (nat_eq (get_or src 0 0) 0xEF && nat_eq (get_or src 1 0) 0xBB)) in omega arith

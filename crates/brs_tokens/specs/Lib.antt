@@ -1,6 +1,9 @@
 pub mod Answer
 pub mod Classes
+pub mod Cuts
+pub mod FaultTable
 pub mod FirstForm
+pub mod Kinds
 pub mod Lengths
 pub mod Numbers
 pub mod Pieces

@@ -1,4 +1,4 @@
--- How each kind of piece is spelled: which bytes, taken whole, are one piece, and of which kind.
+-- Which bytes, taken whole, are one piece, and of which kind, as a test. `Kinds` defines it.
 use Rattle.std.specs.Prelude.{ℕ, Bool, true, false, ◌&&◌, ◌||◌, ◌==◌, if◌then◌else◌, List, [], ◌∷◌, drop, Option, Some, None, codes}
 use Rattle.std.specs.List.{prefix_len, take_while, list_all, list_any}
 use Rattle.std.specs.Str.{bytes_eq}

@@ -1,4 +1,5 @@
--- The token list of a source file, or its first lexical fault.
+-- The token list of a source file, or its first lexical fault, as they are computed byte by byte. What they are is defined in
+-- `Kinds`, `FaultTable` and `Cuts`, and the crate's laws say that the two agree.
 use Rattle.std.specs.Prelude.{ℕ, zero, suc, ◌+◌, ◌-◌, Bool, true, false, ◌&&◌, ◌||◌, ◌==◌, nat_lt, if◌then◌else◌, List, [], ◌∷◌, ◌++◌, length, take, drop, slice_index, Option, Some, None, Result, Ok, Err}
 use Rattle.std.specs.List.{prefix_len}
 use Rattle.std.specs.Str.Lossy.{utf8_valid_len}
@@ -91,7 +92,7 @@ spelling_from (suc good) zero p (b ∷ bs) = elim (piece_at (b ∷ bs)) [
 abbrev pub mark_len : List ℕ → ℕ
 mark_len src = if slice_index src 0 == 0xEF && slice_index src 1 == 0xBB && slice_index src 2 == 0xBF then 3 else 0
 
--- The token list of a source file, or its first lexical fault. Columns are counted in bytes from 1, and the byte order mark
--- counts in its line.
+-- The token list of a source file (`AreTokens`), or its first lexical fault (`IsFirstFault`). Columns are counted in bytes from 1,
+-- and the byte order mark counts in its line.
 abbrev pub spelling : List ℕ → ℕ → Result (List Tok) LexFault
 spelling src first_line = spelling_from (utf8_valid_len src) (mark_len src) (record { line = first_line; column = 1 }) src

@@ -13,7 +13,7 @@ pub enum LexKind {
     FloatLiteral,
     /// A slash.
     Slash,
-    /// A number that is wider than 64 bits.
+    /// A number that is wider than a LongInteger.
     NumberTooLarge,
 }
 

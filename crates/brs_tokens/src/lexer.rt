@@ -100,7 +100,9 @@ fn keep<'a>(
 
 /// The tokens of a source file whose first line has this number, or its first lexical fault.
 ///
-/// Takes time that grows with the number of bytes.
+/// Both are defined by the longest pieces of the file and the table of lexical faults (`AreTokens`, `IsFirstFault`): `spelling`, of which
+/// the contract speaks, computes them ([`tokens_are_the_longest_pieces`](crate::tokens_are_the_longest_pieces),
+/// [`the_fault_is_the_first_of_the_table`](crate::the_fault_is_the_first_of_the_table)). Takes time that grows with the number of bytes.
 pub fn lex(alloc: Global, src: &[u8], first_line: u32) -> Result<TokenList<'_>, LexAnswer>
     requires line { 1 ≤ first_line }
     requires fits { first_line + length src.now < 2 ^ 32 }

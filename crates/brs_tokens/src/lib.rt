@@ -18,7 +18,10 @@ mod token_list;
 mod word;
 
 pub use first_form::lex_first;
-pub use laws::{tokens_are_spelled, tokens_stand_in_order};
+pub use laws::{
+    the_fault_is_the_first_of_the_table, tokens_are_spelled, tokens_are_the_longest_pieces,
+    tokens_stand_in_order,
+};
 pub use lex_fault::{LexFault, LexKind};
 pub use lexer::{LexAnswer, lex};
 pub use number::{NumberValue, number_value};

@@ -73,7 +73,7 @@ fn magnitude(number: &[u8]) -> Option<u64>
     )
 }
 
-/// Whether the number is wider than 64 bits.
+/// Whether the number is wider than a LongInteger.
 pub(crate) fn is_too_large(number: &[u8]) -> bool
     ensures { result ≡ spec.is_too_large number.now }
 {
