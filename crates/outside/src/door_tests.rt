@@ -1,7 +1,6 @@
 //! A door in memory through its trait: its connections one after another, whole and with calls that fail.
 ghost use Rattle.std.specs.Prelude.{◌≡◌, ◌<◌, IfOk};
-ghost use Rattle.outside.specs.Door.{IsOpen};
-ghost use Rattle.outside.specs.declared.door.DoorState.TheVariants.{Closed, Listening};
+ghost use Rattle.outside.specs.declared.door.DoorState.TheVariants.{Closed, Listening, Open};
 
 use crate::calls::Calls;
 use crate::door::{Door, DoorState};
@@ -18,9 +17,9 @@ fn calls_failing(alloc: Global, numbers: &[u64]) -> Result<Calls, Fail> {
 }
 
 // Reads the open connection, and answers whether it came to its end.
-fn hear<D: Door>(door: &mut D, heard: &mut Bytes) -> bool
-    requires { IsOpen (D.state door.old) }
-    ensures { D.state door.new ≡ D.state door.old }
+fn hear<D: Door>(door: &mut D, port: u16, heard: &mut Bytes) -> bool
+    requires { D.state door.old ≡ Open port }
+    ensures { D.state door.new ≡ Open port }
 {
     let mut piece = [0u8; 4];
     for _ in 0..100 {
@@ -38,9 +37,9 @@ fn hear<D: Door>(door: &mut D, heard: &mut Bytes) -> bool
 }
 
 // Writes to the open connection until all is taken or a call fails.
-fn answer<D: Door>(door: &mut D, reply: &[u8])
-    requires { IsOpen (D.state door.old) }
-    ensures { D.state door.new ≡ D.state door.old }
+fn answer<D: Door>(door: &mut D, port: u16, reply: &[u8])
+    requires { D.state door.old ≡ Open port }
+    ensures { D.state door.new ≡ Open port }
 {
     let mut written = 0;
     while written < reply.len() {
@@ -59,8 +58,8 @@ fn serve<D: Door>(door: &mut D, port: u16, heard: &mut Bytes) -> Result<bool, Fa
     if !door.accept()? {
         return Ok(false);
     }
-    if hear(door, heard) && heard.as_slice().ends_with(b"\n") {
-        answer(door, REPLY);
+    if hear(door, port, heard) && heard.as_slice().ends_with(b"\n") {
+        answer(door, port, REPLY);
     }
     door.close();
     Ok(true)
