@@ -71,7 +71,7 @@ fn serve_all<D: Door>(door: &mut D, port: u16, heard: &mut Bytes) -> Result<u64,
 {
     let mut failed = 0;
     door.listen(port)?;
-    for _ in 0..10 {
+    for _ in 0..10u64 {
         match serve(door, port, heard) {
             Ok(true) => {}
             Ok(false) => break,
@@ -97,12 +97,12 @@ fn door_of(
         calls_failing(alloc, failing)?,
         calls_failing(alloc, failing_on_connections)?,
     );
-    door.most = most;
     for incoming in connections {
         let mut bytes = Bytes::new(alloc);
         bytes.push_slice(incoming.as_bytes())?;
         door.push(bytes)?;
     }
+    door.most = most;
     Ok(door)
 }
 
