@@ -1,4 +1,5 @@
-//! The host's files, with a count of their failures. What they hold is not told.
+//! The host's files, with a count of their failures. What they hold is not told. Where a write breaks off in the middle of an
+//! `append`, the bytes that the host took stay in the file.
 ghost use Rattle.std.specs.Prelude.{◌≡◌, None, IfOk};
 ghost use Rattle.outside.specs.Causes.{CountsFault};
 ghost use Rattle.outside.specs.Folder.{IsListing, IsWithin};
@@ -10,7 +11,8 @@ use outside::files::{FileRead, Files};
 use outside::listing::listing_of;
 use outside::paths::is_read;
 use std::alloc::{AllocError, Global};
-use std::io::Read;
+use std::fs::OpenOptions;
+use std::io::{Read, Write};
 use std::rt::Files as System;
 use std::{fs, io};
 
@@ -171,6 +173,14 @@ fn read_file<R: System>(
     }
 }
 
+// Adds bytes at the end of a file, which is made where it is missing.
+fn append_to<R: System>(system: &R, path: &str, bytes: &[u8]) -> io::Result<()> {
+    let mut options = OpenOptions::new();
+    options.append(true).create(true);
+    let mut file = options.open(system, path)?;
+    file.write_all(bytes)
+}
+
 // Counts a failure.
 fn counted<T>(faults: &mut u64, answer: Result<T, FilesFault>) -> Result<T, FilesFault>
     ensures same { result ≡ answer }
@@ -202,6 +212,14 @@ impl<R: System + AllocGlobal + Clone + Drop> Files for HostFiles<R> {
 
     fn read_whole(&mut self, path: &str, limit: usize) -> Result<FileRead, FilesFault> {
         let answer = read_file(&self.system, self.alloc, path, limit);
+        counted(&mut self.faults, answer)
+    }
+
+    fn append(&mut self, path: &str, bytes: &[u8]) -> Result<(), FilesFault> {
+        let answer = match append_to(&self.system, path, bytes) {
+            Ok(()) => Ok(()),
+            Err(error) => Err(fault_of(&error)),
+        };
         counted(&mut self.faults, answer)
     }
 }

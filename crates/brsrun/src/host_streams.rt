@@ -1,10 +1,19 @@
 //! The streams of the host, with a count of their failures. What they hold or have left is what std tells of them: of standard
 //! input and output nothing.
 ghost use Rattle.std.specs.Prelude.{◌≡◌};
+ghost use Rattle.outside.specs.Causes.{Rises};
 
 use outside::faults::Failed;
 use outside::streams::{Sink, Source};
 use std::io::{Read, Write};
+
+// Counts a failure.
+fn failed(faults: &mut u64) -> Failed
+    ensures { Rises faults.old faults.new }
+{
+    *faults = faults.saturating_add(1);
+    Failed
+}
 
 /// A reader of std, such as standard input, as a source.
 #[derive(Drop)]
@@ -30,10 +39,7 @@ impl<R: Read> Source for StandardInput<R> {
     fn read(&mut self, into: &mut [u8]) -> Result<usize, Failed> {
         match self.reader.read(into) {
             Ok(count) => Ok(count),
-            Err(_) => {
-                self.faults = self.faults.saturating_add(1);
-                Err(Failed)
-            }
+            Err(_) => Err(failed(&mut self.faults)),
         }
     }
 }
@@ -62,10 +68,7 @@ impl<W: Write> Sink for StandardOutput<W> {
     fn write(&mut self, bytes: &[u8]) -> Result<usize, Failed> {
         match self.writer.write(bytes) {
             Ok(count) if count > 0 => Ok(count),
-            _ => {
-                self.faults = self.faults.saturating_add(1);
-                Err(Failed)
-            }
+            _ => Err(failed(&mut self.faults)),
         }
     }
 }

@@ -44,7 +44,11 @@ fn status_of(error: &io::Error) -> Status {
 fn closed_door(alloc: Global) -> MemoryDoor
     ensures { result.state ≡ Closed }
 {
-    MemoryDoor::new(Calls::new(Vec::new(alloc)), Calls::new(Vec::new(alloc)))
+    MemoryDoor::new(
+        alloc,
+        Calls::new(Vec::new(alloc)),
+        Calls::new(Vec::new(alloc)),
+    )
 }
 
 fn main(rt: HostRuntime) -> ExitCode {

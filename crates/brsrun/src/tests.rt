@@ -5,7 +5,7 @@ use crate::host_files::HostFiles;
 use crate::host_streams::{StandardInput, StandardOutput};
 use crate::message::write_message;
 use outside::faults::{Failed, FilesFault};
-use outside::files::{FileRead, Files as _};
+use outside::files::{FileRead, Files as OutsideFiles};
 use outside::paths::whole_path;
 use outside::status::Status;
 use outside::streams::{Sink, Source};
@@ -83,6 +83,33 @@ fn only_the_files_of_a_channel_are_listed_and_read(rt: HostRuntime) -> Result<()
         }
     }
     fs::remove_dir_all(&rt, "files_test")?;
+    Ok(())
+}
+
+fn append_once<F: OutsideFiles>(files: &mut F, path: &str, bytes: &[u8]) -> Result<(), FilesFault>
+    requires { 0 < length bytes.now }
+{
+    files.append(path, bytes)
+}
+
+#[test]
+fn what_is_appended_stands_at_the_end_of_a_file(rt: HostRuntime) -> Result<(), Fail> {
+    let _ = fs::remove_dir_all(&rt, "append_test");
+    fs::create_dir_all(&rt, "append_test")?;
+    let mut files = HostFiles::new(rt, rt.alloc());
+    append_once(&mut files, "append_test/record", b"turn 0 1\n")?;
+    append_once(&mut files, "append_test/record", b"round 1000\n")?;
+    assert_eq!(rt;
+        fs::read(&rt, "append_test/record")?.as_slice(),
+        b"turn 0 1\nround 1000\n".as_slice()
+    );
+    for path in ["append_test", "append_test/none/record"] {
+        match append_once(&mut files, path, b"x") {
+            Ok(()) => assert!(rt; false),
+            Err(fault) => assert_eq!(rt; fault, FilesFault::Failed),
+        }
+    }
+    fs::remove_dir_all(&rt, "append_test")?;
     Ok(())
 }
 

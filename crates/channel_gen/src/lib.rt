@@ -1,0 +1,9 @@
+//! The made channel: a channel of any size from 1 to 200, with as many source functions and components, and a script for it.
+#![tactic(auto)]
+
+mod files;
+mod made;
+#[cfg(test)]
+mod tests;
+
+pub use made::{Made, make_channel};
