@@ -105,9 +105,9 @@ pub(crate) fn all_space(bytes: &[u8]) -> bool
     bytes.iter().all(|b| is_space(*b))
 }
 
-/// The bytes behind a mark at the front, if it stands there.
+/// The bytes behind a mark at the front, if it stands there. Takes no memory.
 #[tactic(auto, unfolding(crate::specs::Written::strip))]
-pub(crate) fn strip<'a>(mut mark: &[u8], mut bytes: &'a [u8]) -> Option<&'a [u8]>
+pub fn strip<'a>(mut mark: &[u8], mut bytes: &'a [u8]) -> Option<&'a [u8]>
     ensures { option_now result ≡ spec.strip mark.entry.now bytes.entry.now }
 {
     while let [c, more @ ..] = mark {

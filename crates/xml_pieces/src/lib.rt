@@ -12,6 +12,7 @@ mod piece;
 mod read_error;
 mod texts;
 
+pub use bytes::strip;
 pub use cursor::Cursor;
 pub use laws::{read_pieces_were_written, written_pieces_are_read};
 pub use part::Part;

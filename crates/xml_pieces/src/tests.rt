@@ -92,7 +92,8 @@ fn references_are_read_in_values(rt: HostRuntime) -> Result<(), Fail> {
             assert_eq!(rt; attribute.name.as_str(), "b");
             assert_eq!(rt; attribute.value.as_str(), "<>&\"'A\u{20ac}\n");
         }
-        _ => assert!(rt; false),
+        Ok(_other) => assert!(rt; false),
+        Err(_) => assert!(rt; false),
     }
     Ok(())
 }
