@@ -1,12 +1,12 @@
 -- What the answer of a reading is worth.
-use Rattle.std.proofs.Common.{◌≡◌, ℕ, List, length, length-append, ◌≤◌, arith, refl, Option, Some, None, Result, Ok, Err, ap, sym, ◌∙◌, subst}
+use Rattle.std.proofs.Common.{◌≡◌, ℕ, List, length, length-append, ◌≤◌, arith, Some, Result, Ok, Err, ap, sym, ◌∙◌, subst}
 use Rattle.std.specs.Prelude.{IfOk}
 use Rattle.component_files.specs.declared.place.Place.{Place}
 use Rattle.component_files.specs.declared.element.ComponentFile.{ComponentFile}
 use Rattle.component_files.specs.declared.read.ComponentAnswer.{ComponentAnswer}
 use Rattle.component_files.specs.declared.read.ComponentAnswer.TheVariants.{Fault, NoMemory}
 use Rattle.component_files.specs.declared.state.Progress.TheVariants.{Start}
-use Rattle.component_files.specs.ComponentGrammar.{IsText, IsFirstFaultOf, order_mark, otherwise, start_of_file, text_of_file}
+use Rattle.component_files.specs.ComponentGrammar.{IsText, IsFirstFaultOf, order_mark, start_of_file, text_of_file}
 use Rattle.component_files.specs.Scan.{scan, Finds, IsRead, IsFault}
 use Rattle.xml_pieces.specs.Written.{strip}
 use Rattle.xml_pieces.proofs.Basics.{strip_taken}
@@ -39,9 +39,5 @@ finds_in_file bytes text place r a b e =
     subst (λ p. Finds (scan (length (text_of_file bytes)) Start p (text_of_file bytes)) r) a (subst (λ t. Finds (scan (length t) Start place t) r) b e)
 
 -- the text behind a mark is no longer than the bytes
-pub text_shorter : (bytes : List ℕ) → length (text_of_file bytes) ≤ length bytes
-text_shorter bytes = at (strip order_mark bytes) refl
-  where
-    at : (o : Option (List ℕ)) → strip order_mark bytes ≡ o → length (otherwise o bytes) ≤ length bytes
-    at (Some text) e = let whole = strip_taken order_mark bytes text e in omega (arith, ap length whole, length-append order_mark text)
-    at None e = omega arith
+pub mark_shorter : (bytes text : List ℕ) → Some text ≡ strip order_mark bytes → length text ≤ length bytes
+mark_shorter bytes text e = let whole = strip_taken order_mark bytes text (sym e) in omega (arith, ap length whole, length-append order_mark text)

@@ -6,3 +6,4 @@ pub mod Turns
 pub mod Top
 pub mod Answering
 pub mod Said
+pub mod Whole

@@ -9,7 +9,7 @@ use Rattle.xml_pieces.proofs.Basics.{done_parts, bind_some}
 use Rattle.xml_pieces.proofs.Pieces.{piece_again, piece_taken, some_spelled}
 use Rattle.component_files.specs.declared.place.Place.{Place}
 use Rattle.component_files.specs.declared.element.ComponentFile.{ComponentFile}
-use Rattle.component_files.specs.declared.state.Progress.TheVariants as state
+use Rattle.component_files.specs.declared.state.State.TheVariants as state
 use Rattle.component_files.specs.declared.state.Progress.{Progress}
 use Rattle.component_files.specs.declared.state.Progress.TheVariants.{Start, Inside}
 use Rattle.component_files.specs.Places.{place_after}

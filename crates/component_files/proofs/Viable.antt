@@ -234,7 +234,10 @@ whole_inline s d = at s.uri
 whole_true : (f : ComponentFile) (s : ScriptElement) (place : Place) → is_whole s ≡ true → Ending (state.Script f s) (script_ends true) place
 whole_true f s place h =
     let next = state.Component (record f { scripts = f.scripts ++ s ∷ [] }) in
-    record { file = _; leads = same_moves (state.Script f s) next (Close (Some (codes "script"))) _ _ (ap (λ z. cond z (Some next) None) h) refl }
+    record {
+      file = record f { scripts = f.scripts ++ s ∷ [] };
+      leads = same_moves (state.Script f s) next (Close (Some (codes "script"))) (marks (place_after place (spelled (name_end (codes "script")))) (name_end (codes "component") ∷ [])) _ (ap (λ z. cond z (Some next) None) h) refl;
+    }
 
 whole_ending : (f : ComponentFile) (s : ScriptElement) (place : Place) → is_whole s ≡ true → Ending (state.Script f s) (script_ends (is_whole s)) place
 whole_ending f s place h = subst (λ z. Ending (state.Script f s) (script_ends z) place) (sym h) (whole_true f s place h)
@@ -243,9 +246,11 @@ empty_ending : (f : ComponentFile) (s : ScriptElement) (place : Place) → s.inl
 empty_ending f s place none =
     let d : InlineScript = record { text = []; first_line = place.line } in
     let filled = record s { inline = Some d } in
+    let behind_ = place_after place (spelled (Section [])) in
+    let more = whole_true f filled behind_ (whole_inline s d) in
     record {
-      file = _;
-      leads = same_moves (state.Script f s) (state.Script f filled) (Data d) _ _ (ap (λ o. added o f s d.text d.first_line) none) (whole_true f filled (place_after place (spelled (Section []))) (whole_inline s d)).leads;
+      file = more.file;
+      leads = same_moves (state.Script f s) (state.Script f filled) (Data d) (marks behind_ (script_ends true)) (Some (state.After more.file)) (ap (λ o. added o f s d.text d.first_line) none) more.leads;
     }
 
 script_ending : (f : ComponentFile) (s : ScriptElement) (u : Option (List ℕ)) (i : Option InlineScript) (place : Place) → s.uri ≡ u → s.inline ≡ i → Ending (state.Script f s) (script_ends (is_whole s)) place
@@ -273,7 +278,7 @@ ending (state.Component f) place = record { file = _; leads = refl }
 ending (state.Interface f) place = record { file = _; leads = refl }
 ending (state.Member f kind.Field) place = record { file = _; leads = refl }
 ending (state.Member f kind.Function) place = record { file = _; leads = refl }
-ending (state.Script f s) place = script_ending f s.uri s.inline place refl refl
+ending (state.Script f s) place = script_ending f s s.uri s.inline place refl refl
 ending (state.Children f []) place = record { file = _; leads = refl }
 ending (state.Children f (o ∷ os)) place =
     let next = with_child f os (child o o.children) in

@@ -65,15 +65,16 @@ fn truth(value: Option<Text>) -> Result<bool, ReadError>
 pub(crate) fn field(alloc: Global, tag: &Tag, place: Place) -> Result<FieldElement, ReadError>
     ensures { Answers (spec.field tag.now place) result }
 {
-    let id = needed(alloc, tag.attributes.as_slice(), b"id")?;
-    let word = needed(alloc, tag.attributes.as_slice(), b"type")?;
-    let notify = value_of(alloc, tag.attributes.as_slice(), b"alwaysNotify")?;
+    let attributes = tag.attributes.as_slice();
+    let id = needed(alloc, attributes, b"id")?;
+    let word = needed(alloc, attributes, b"type")?;
+    let notify = value_of(alloc, attributes, b"alwaysNotify")?;
     let always = truth(notify)?;
-    if has_attribute(tag.attributes.as_slice(), b"alias") {
+    if has_attribute(attributes, b"alias") {
         return Err(ReadError::Fault);
     }
-    let value = value_of(alloc, tag.attributes.as_slice(), b"value")?;
-    let on_change = value_of(alloc, tag.attributes.as_slice(), b"onChange")?;
+    let value = value_of(alloc, attributes, b"value")?;
+    let on_change = value_of(alloc, attributes, b"onChange")?;
     Ok(FieldElement {
         id,
         word,

@@ -10,6 +10,7 @@ mod attributes;
 mod children;
 mod element;
 mod elements;
+mod laws;
 mod place;
 mod read;
 mod stack;
@@ -19,6 +20,7 @@ pub use element::{
     ChildElement, ChildElementList, ComponentFile, FieldElement, FieldElementList, FunctionElement,
     FunctionElementList, InlineScript, ScriptElement, ScriptElementList,
 };
+pub use laws::{file_or_fault, never_both, one_fault, one_file};
 pub use read::{ComponentAnswer, ComponentSyntax, read_component};
 pub use xml_pieces::AttributeText;
 pub use element::AttributeTextList;
