@@ -17,13 +17,13 @@ mod stack;
 mod state;
 
 pub use element::{
-    ChildElement, ChildElementList, ComponentFile, FieldElement, FieldElementList, FunctionElement,
-    FunctionElementList, InlineScript, ScriptElement, ScriptElementList,
+    AttributeTextList, ChildElement, ChildElementList, ComponentFile, FieldElement,
+    FieldElementList, FunctionElement, FunctionElementList, InlineScript, ScriptElement,
+    ScriptElementList,
 };
 pub use laws::{file_or_fault, never_both, one_fault, one_file};
 pub use read::{ComponentAnswer, ComponentSyntax, read_component};
 pub use xml_pieces::AttributeText;
-pub use element::AttributeTextList;
 
 #[cfg(test)]
 mod tests;
