@@ -1,0 +1,5 @@
+pub mod Places
+pub mod Elements
+pub mod Steps
+pub mod Scan
+pub mod ComponentGrammar

@@ -1,0 +1,7 @@
+pub mod Characters
+pub mod Basics
+pub mod Values
+pub mod Tags
+pub mod Pieces
+pub mod Runs
+pub mod Loops

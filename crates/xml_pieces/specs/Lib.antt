@@ -1,0 +1,5 @@
+pub mod Written
+pub mod Parts
+pub mod Reading
+pub mod Reads
+pub mod Runs
