@@ -19,6 +19,21 @@ fn message_of(alloc: Global, node: u32, payload: i32) -> Result<Message, NoMemor
     })
 }
 
+fn send(alloc: Global, ports: &mut Ports, port: u32, node: u32) -> Result<(), NoMemory> {
+    if port >= 1 && port <= ports.count() {
+        ports.put(port, message_of(alloc, node, 1)?)?;
+    }
+    Ok(())
+}
+
+/// Whether a message waits, and the node that the first one tells of.
+fn receive(ports: &mut Ports, port: u32) -> (bool, Option<u32>) {
+    if port >= 1 && port <= ports.count() {
+        return (ports.has_message(port), ports.take(port).map(|m| m.node));
+    }
+    (false, None)
+}
+
 #[test]
 fn messages_leave_a_port_in_the_order_in_which_they_came(rt: HostRuntime) -> Result<(), Fail> {
     let alloc = rt.alloc();
@@ -27,7 +42,7 @@ fn messages_leave_a_port_in_the_order_in_which_they_came(rt: HostRuntime) -> Res
     assert!(rt; matches!(ports.make(), Ok(2)));
     assert_eq!(rt; ports.count(), 2);
     for (port, node) in [(1, 5), (2, 6), (1, 7)] {
-        ports.put(port, message_of(alloc, node, 1)?)?;
+        send(alloc, &mut ports, port, node)?;
     }
     for (port, want) in [
         (1, Some(5)),
@@ -36,9 +51,7 @@ fn messages_leave_a_port_in_the_order_in_which_they_came(rt: HostRuntime) -> Res
         (2, Some(6)),
         (2, None),
     ] {
-        assert_eq!(rt; ports.has_message(port), want.is_some());
-        let taken = ports.take(port).map(|m| m.node);
-        assert_eq!(rt; taken, want);
+        assert!(rt; receive(&mut ports, port) == (want.is_some(), want));
     }
     Ok(())
 }

@@ -1,6 +1,5 @@
 -- The inbox of the render actor: its entries in order, and the numbers that posts and keys have been given.
 use Rattle.std.specs.Prelude.{◌≡◌, ℕ, ◌+◌, ◌≤◌, Bool, false, List, [], ◌∷◌, ◌==◌, Option, None, Some, if◌then◌else◌, slice_index_or}
-use Rattle.chan_values.specs.declared.access.Access.{Access as NodeAccess}
 use Rattle.render_inbox.specs.declared.entry.Entry.{Entry}
 use Rattle.render_inbox.specs.declared.entry.Entry.TheVariants.{Key, Access, TaskEnd}
 
