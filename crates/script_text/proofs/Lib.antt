@@ -1,0 +1,2 @@
+pub mod LiteralsLemmas
+pub mod NumbersLemmas
