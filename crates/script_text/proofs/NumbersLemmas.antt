@@ -34,20 +34,20 @@ no_plus : (bs : List ℕ) → is_plain bs ≡ true → without_leading_plus bs �
 no_plus bs plain = ap (λ k. drop k bs) (cond-false _ 1 0 (ne_eqb (get_or bs 0 0) 43 (plain_first bs plain)))
 
 plain_parsed : {E : Type 0} (bs : List ℕ) (r : Result ℕ E) → is_plain bs ≡ true → ParsesUnsigned 32 10 bs r
-    → IfSome (result_ok r) (λ n. bs ≡ decimal n)
+    → IfSome (result_ok r) (λ n. (n < 2 ^ 32) × (bs ≡ decimal n))
 plain_parsed bs (Err e) plain parsed = tt
 plain_parsed bs (Ok n) plain parsed =
     let same = no_plus bs plain in
     let numeral : (0 < length bs) × AllDigits 10 bs = subst (λ ds. (0 < length ds) × AllDigits 10 ds) same parsed.0.0 in
     let fits : digits_value 10 bs < 2 ^ 32 = subst (λ ds. digits_value 10 ds < 2 ^ 32) same parsed.0.1 in
     let value : n ≡ digits_value 10 bs = subst (λ ds. n ≡ digits_value 10 ds) same parsed.1 in
-    sym (decimal-digits_value own bs numeral.1 numeral.0 (plain_zero bs plain numeral.0) (omega arith)) ∙ ap decimal (sym value)
+    (omega arith, sym (decimal-digits_value own bs numeral.1 numeral.0 (plain_zero bs plain numeral.0) (omega arith)) ∙ ap decimal (sym value))
 
 -- a plain text that is read is that of its number
 pub parsed_spelled : {E : Type 0} (bs text : List ℕ) (r : Result ℕ E) (o : Option ℕ) → is_plain bs ≡ true → text ≡ bs
-    → ParsesUnsigned 32 10 text r → o ≡ result_ok r → IfSome o (λ n. bs ≡ decimal n)
+    → ParsesUnsigned 32 10 text r → o ≡ result_ok r → IfSome o (λ n. (n < 2 ^ 32) × (bs ≡ decimal n))
 parsed_spelled bs text r o plain same parsed is =
-    subst (λ p. IfSome p (λ n. bs ≡ decimal n)) (sym is) (plain_parsed bs r plain (subst (λ t. ParsesUnsigned 32 10 t r) same parsed))
+    subst (λ p. IfSome p (λ n. (n < 2 ^ 32) × (bs ≡ decimal n))) (sym is) (plain_parsed bs r plain (subst (λ t. ParsesUnsigned 32 10 t r) same parsed))
 
 ok_is : {E : Type 0} (r : Result ℕ E) (n : ℕ) → r ≡ Ok n → result_ok r ≡ Some n
 ok_is r n e = rw e refl

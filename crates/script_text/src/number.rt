@@ -16,7 +16,7 @@ fn is_plain(text: &[u8]) -> bool
 
 /// The number that a text spells: decimal digits without a leading zero, but for `0` itself, up to 4,294,967,295.
 pub(crate) fn read_number(text: &[u8]) -> Option<u32>
-    ensures spelled { IfSome result (λ number. text.now ≡ decimal number) }
+    ensures spelled { IfSome result (λ number. (number < 2 ^ 32) × (text.now ≡ decimal number)) }
     ensures found { (number : ℕ) → number < 2 ^ 32 → text.now ≡ decimal number → result ≡ Some number }
 {
     if !is_plain(text) {
