@@ -1,6 +1,9 @@
 //! The plain values that every other crate stands on.
 #![tactic(auto)]
 
+mod access;
+mod argument_list;
+mod bounds;
 mod bytes;
 mod end_reason;
 mod error_code;
@@ -8,10 +11,15 @@ mod event;
 mod folded;
 mod folder_fault;
 mod key;
-mod measure;
+mod limits;
+mod message;
 mod place;
+mod portable;
 mod text;
 
+pub use access::Access;
+pub use argument_list::ArgumentList;
+pub use bounds::measure;
 pub use bytes::Bytes;
 pub use end_reason::EndReason;
 pub use error_code::ErrorCode;
@@ -19,8 +27,10 @@ pub use event::Event;
 pub use folded::fold_name;
 pub use folder_fault::FolderFault;
 pub use key::Key;
-pub use measure::Measure;
+pub use limits::{MAX_DEPTH, MAX_PARTS, Measure};
+pub use message::Message;
 pub use place::Place;
+pub use portable::{ItemList, Pair, PairList, Portable};
 pub use text::Text;
 
 /// Memory ran out. The object of the call is as it was, except where the call says otherwise.

@@ -1,5 +1,11 @@
 //! How deep a value is and how many parts it has.
 
+/// The depth over which a value may not leave its actor.
+pub const MAX_DEPTH: u32 = 64;
+
+/// The number of parts over which a value may not leave its actor.
+pub const MAX_PARTS: u32 = 65_536;
+
 /// How deep a value is and how many parts it has.
 #[derive(Clone, Copy, Debug, PartialEq, Eq)]
 pub struct Measure {
