@@ -1,4 +1,3 @@
-mod FirstExamples
 mod ManifestExamples
 pub mod FirstBodies
 pub mod FirstRuns

@@ -11,7 +11,7 @@ use Rattle.std.proofs.lemmas.Grind.{flat_map-append}
 use Rattle.std.proofs.lemmas.List.{append-nil}
 use Rattle.std.proofs.lemmas.Str.{encode_ascii, inside_one, encodes-append}
 use Rattle.std.proofs.Math.Utf8.{encode, encodes}
-use Rattle.trace_report.specs.Escapes.{escaped_byte}
+use Rattle.chan_values.specs.Escape.{escaped_byte}
 
 plain_byte : (b : ℕ) → (nat_lt b 32 || (b == 127 || b == 92)) ≡ false → escaped_byte b ≡ b ∷ []
 plain_byte b h = ap (λ t. if t then 92 ∷ digit_char (b / 16) ∷ digit_char (b % 16) ∷ [] else (b ∷ [])) h

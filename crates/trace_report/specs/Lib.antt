@@ -1,3 +1,2 @@
-pub mod Escapes
 pub mod ReportText
 pub mod TraceText

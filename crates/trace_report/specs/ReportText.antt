@@ -2,7 +2,7 @@
 use Rattle.std.specs.Prelude.{ℕ, List, [], ◌∷◌, ◌++◌, codes, decimal, flat_map, Option, Some, None}
 use Rattle.trace_report.specs.declared.report.ReportLine.{ReportLine}
 use Rattle.trace_report.specs.declared.report.ReportLine.TheVariants as line
-use Rattle.trace_report.specs.Escapes.{escaped}
+use Rattle.chan_values.specs.Escape.{escaped}
 
 abbrev pub parent_text : Option ℕ → List ℕ
 parent_text (Some node) = decimal node

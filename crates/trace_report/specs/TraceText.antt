@@ -9,7 +9,7 @@ use Rattle.trace_report.specs.declared.observer.Observer.{Observer}
 use Rattle.trace_report.specs.declared.observer.Observer.TheVariants as observer
 use Rattle.trace_report.specs.declared.trace.TraceLine.{TraceLine}
 use Rattle.trace_report.specs.declared.trace.TraceLine.TheVariants as line
-use Rattle.trace_report.specs.Escapes.{escaped}
+use Rattle.chan_values.specs.Escape.{escaped}
 
 -- two numbers with a dot between them
 abbrev pub dotted : ℕ → ℕ → List ℕ

@@ -1,6 +1,6 @@
 //! Texts as they stand in a line.
 ghost use Rattle.std.specs.Prelude.{◌≡◌, ◌==◌, ◌||◌, nat_lt, flat_map, encode_utf8, Some};
-ghost use Rattle.trace_report.specs.Escapes.{escaped, escaped_byte};
+ghost use Rattle.chan_values.specs.Escape.{escaped, escaped_byte};
 
 use std::fmt;
 

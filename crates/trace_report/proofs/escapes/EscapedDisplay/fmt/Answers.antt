@@ -1,6 +1,6 @@
 use Rattle.std.proofs.Common.{rules}
 use Rattle.std.proofs.Output.{has_written_append, has_written_of_eq}
-use Rattle.trace_report.specs.Escapes.{escaped_byte}
+use Rattle.chan_values.specs.Escape.{escaped_byte}
 use Rattle.trace_report.proofs.Characters.{characters_more}
 use Rattle.trace_report.proofs.escapes.EscapedDisplay.fmt.Goals as goal
 

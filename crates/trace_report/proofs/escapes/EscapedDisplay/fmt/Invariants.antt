@@ -1,7 +1,7 @@
 use Rattle.std.specs.List.{flat_map}
 use Rattle.std.specs.Fmt.{HasWritten, IsPlainFormatter}
 use Rattle.std.proofs.Math.Utf8.{encodes}
-use Rattle.trace_report.specs.Escapes.{escaped_byte}
+use Rattle.chan_values.specs.Escape.{escaped_byte}
 use Rattle.trace_report.proofs.escapes.EscapedDisplay.fmt.Given as goal
 
 abbrev pub invariant-loop-c : goal.invariant-loop-c
