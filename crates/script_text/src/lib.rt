@@ -1,0 +1,10 @@
+//! The lines of a script: what each says, and how each is written.
+#![tactic(auto)]
+
+mod key_words;
+mod literal;
+mod number;
+mod read;
+
+pub use literal::decoded_character;
+pub use read::read_line;
