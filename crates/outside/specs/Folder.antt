@@ -1,11 +1,12 @@
 -- Files by their whole paths, and which of those below a root a channel is read from.
-use Rattle.std.specs.Prelude.{◌<◌, length, ◌-◌, slice_index_or, ◌≡◌, ℕ, Bool, ◌≤◌, ◌==◌, ◌&&◌, ◌||◌, nat_eq, nat_lt, nat_le, List, [], ◌∷◌, ◌++◌, length, map, filter_map, count_by, Option, None, Some, true, if◌then◌else◌, option_and_then, ⊤, codes}
+use Rattle.std.specs.Prelude.{◌<◌, length, ◌-◌, slice_index_or, ◌≡◌, ℕ, Bool, ◌≤◌, ◌==◌, ◌&&◌, ◌||◌, nat_eq, nat_lt, nat_le, List, [], ◌∷◌, ◌++◌, length, map, filter_map, count_by, Option, None, Some, Result, Ok, Err, true, if◌then◌else◌, option_and_then, option_map, ⊤, codes}
 use Rattle.std.specs.List.{AllByRecursion, starts_with, ends_with}
 use Rattle.std.specs.List.Sorted.{IsStrictlySortedBy}
 use Rattle.std.specs.Str.{bytes_eq}
 use Rattle.std.specs.Char.{to_ascii_lowercase}
 use Rattle.std.specs.Ordering.{nat_cmp}
-use Rattle.std.specs.declared.cmp.Ordering.TheVariants.{Less}
+use Rattle.std.specs.declared.cmp.Ordering.{Ordering}
+use Rattle.std.specs.declared.cmp.Ordering.TheVariants.{Less, Equal, Greater}
 use Rattle.std.specs.Cmp.Lexicographic.{slice_cmp}
 use Rattle.outside.specs.declared.files.FileBytes.{FileBytes}
 use Rattle.outside.specs.declared.files.FileRead.{FileRead}
@@ -89,3 +90,20 @@ IsWithin limit Longer = ⊤
 abbrev pub Grows : {X : Type 0} → Option (List X) → Option (List X) → List X → Type 0
 Grows None now more = now ≡ None
 Grows (Some xs) now more = now ≡ Some (xs ++ more)
+
+-- where a file stands against the path, which has `more` behind it
+abbrev pub appended_at : Ordering → List ℕ → List ℕ → FileBytes → List FileBytes → List FileBytes → List FileBytes
+appended_at Less path bytes file files more = file ∷ more
+appended_at Equal path bytes file files more = record file { bytes = file.bytes ++ bytes } ∷ files
+appended_at Greater path bytes file files more = record { path = path; bytes = bytes } ∷ file ∷ files
+
+-- the files with these bytes at the end of the file of this path, which is made at its place where it is missing
+abbrev pub appended : List ℕ → List ℕ → List FileBytes → List FileBytes
+appended path bytes [] = record { path = path; bytes = bytes } ∷ []
+appended path bytes (file ∷ files) =
+    appended_at (slice_cmp nat_cmp file.path path) path bytes file files (appended path bytes files)
+
+-- `append` that succeeds appends, and any other changes nothing
+abbrev pub FilesGrow : {T E : Type 0} → Result T E → List ℕ → List ℕ → Option (List FileBytes) → Option (List FileBytes) → Type 0
+FilesGrow (Ok x) path bytes before now = now ≡ option_map (appended path bytes) before
+FilesGrow (Err e) path bytes before now = now ≡ before

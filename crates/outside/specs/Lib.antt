@@ -2,5 +2,7 @@ pub mod Causes
 pub mod Door
 pub mod Folder
 pub mod Listed
+pub mod Place
+pub mod Refusal
 pub mod Status
 pub mod Told

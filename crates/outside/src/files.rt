@@ -1,4 +1,4 @@
-//! Files, which are listed below a root and read.
+//! Files, which are listed below a root, read and appended to.
 
 use crate::faults::FilesFault;
 use chan_values::{Bytes, Text};
@@ -23,11 +23,11 @@ pub enum FileRead {
 
 /// Files by their whole paths.
 pub trait Files {
-    ghost use Rattle.std.specs.Prelude.{◌≡◌, ℕ, List, [], ◌∷◌, Option, IfOk, IfSome, OnOk, OnErr, IsSome};
+    ghost use Rattle.std.specs.Prelude.{◌≡◌, ◌<◌, ℕ, List, [], ◌∷◌, length, Option, IfOk, IfSome, OnOk, OnErr, IsSome};
     ghost use Rattle.std.specs.Option.{ForSome};
     ghost use Rattle.outside.specs.Causes.{CountsFault};
     ghost use Rattle.outside.specs.declared.files.FileBytes.{FileBytes};
-    ghost use Rattle.outside.specs.Folder.{IsListing, paths_below, content_of, read_of, IsWithin, Grows, IsMap};
+    ghost use Rattle.outside.specs.Folder.{IsListing, paths_below, content_of, read_of, IsWithin, Grows, IsMap, FilesGrow};
 
     /// The map of whole paths to bytes, where it is told: the files, ascending by their paths.
     ghost map: { Self → Option (List FileBytes) };
@@ -60,6 +60,14 @@ pub trait Files {
         ensures told { IfOk result (λ read. ForSome (map self.old) (λ files.
             IfSome (content_of files path.now) (λ bytes. read ≡ read_of limit bytes))) }
         ensures map { map self.new ≡ map self.old }
+        ensures roots { roots self.new ≡ roots self.old }
+        ensures cause { CountsFault (faults self.old) (faults self.new) result };
+
+    /// Adds bytes at the end of the file with this whole path, which is made where it is missing. After an `Err` the files hold
+    /// what they held; of the host's files this is not promised where a write broke off in the middle.
+    fn append(&mut self, path: &str, bytes: &[u8]) -> Result<(), FilesFault>
+        requires { 0 < length bytes.now }
+        ensures map { FilesGrow result path.now bytes.now (map self.old) (map self.new) }
         ensures roots { roots self.new ≡ roots self.old }
         ensures cause { CountsFault (faults self.old) (faults self.new) result };
 

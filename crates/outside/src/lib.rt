@@ -10,11 +10,13 @@ pub mod calls;
 pub mod door;
 pub mod faults;
 pub mod files;
+pub mod laws;
 pub mod listing;
 pub mod memory_door;
 pub mod memory_files;
 pub mod memory_streams;
 pub mod paths;
+pub mod refusal;
 pub mod status;
 pub mod streams;
 #[cfg(test)]
