@@ -1,5 +1,5 @@
 -- Lines of each kind.
-use Rattle.std.proofs.Common.{◌≡◌, ◌≢◌, ℕ, zero, suc, ◌+◌, ◌-◌, ◌^◌, ◌<◌, ◌≤◌, Bool, true, false, ◌==◌, List, [], ◌∷◌, ◌++◌, length, take, drop, get_or, cond, codes, Option, Some, None, IfSome, MatchOption, Bor, nat_eq, sym, refl, ap, ◌∙◌, subst, arith, append_assoc, length-append, length-drop, add-one, drop-cons, take-append-drop}
+use Rattle.std.proofs.Common.{◌≡◌, ◌≢◌, ℕ, suc, ◌+◌, ◌-◌, ◌^◌, ◌<◌, Bool, true, false, ◌==◌, List, [], ◌∷◌, ◌++◌, length, take, drop, get_or, cond, codes, Option, Some, None, IfSome, MatchOption, Bor, nat_eq, sym, refl, ap, ◌∙◌, subst, arith, append_assoc, length-append, length-drop, add-one, drop-cons, take-append-drop}
 use Rattle.std.specs.Cmp.Lexicographic.{pointwise}
 use Rattle.std.specs.Fmt.{decimal}
 use Rattle.std.specs.List.{find, position, position_or_len}
@@ -8,7 +8,7 @@ use Rattle.std.proofs.lemmas.List.{append_cancel_right, get_or_append_left, take
 use Rattle.std.specs.Str.{bytes_eq}
 use Rattle.std.proofs.lemmas.Bool.Decides.{Decides-eqb}
 use Rattle.std.proofs.lemmas.Slice.Eq.{strip_suffix_is, bytes_eq-Decides}
-use Rattle.std.proofs.lemmas.List.Prefix.{end_rest, front_reads, front_rest}
+use Rattle.std.proofs.lemmas.List.Prefix.{end_rest}
 use Rattle.std.proofs.lemmas.List.Sums.{position_or_len_is, passes_at_first}
 use Rattle.std.proofs.lemmas.Bool.{cond-true, cond_both, both_ways, eq-eqb, lt-ltb, ltb-true, eqb-true, ne_eqb}
 use Rattle.std.proofs.lemmas.Fmt.{decimal_is_IsNumeral}
@@ -19,7 +19,7 @@ use Rattle.chan_values.specs.declared.key.Key.TheVariants as key
 use Rattle.chan_values.specs.declared.event.Event.{Event}
 use Rattle.chan_values.specs.declared.event.Event.TheVariants as event
 use Rattle.script_text.specs.Keys.{IsKey, key_text, key_word}
-use Rattle.script_text.specs.Lines.{Says, line_of, IsEvent, press_word}
+use Rattle.script_text.specs.Lines.{Says, press_word}
 
 differ : (x y : ℕ) (xs ys : List ℕ) → nat_eq x y ≡ false → x ∷ xs ≡ y ∷ ys → ⊥
 differ x y xs ys apart e = both_ways _ apart (eq-eqb x y (ap (λ l. get_or l 0 0) e))
@@ -58,6 +58,21 @@ are_named =
 
 pub named_spelled : (word : List ℕ) (r : Option Key) → r ≡ find (has_word word) NAMED_KEYS → Spelled word r
 named_spelled word r is = subst (Spelled word) (sym is) (find_spelled word NAMED_KEYS are_named)
+
+-- a key that is no literal is its word
+pub word_alone : (k : Key) → ((c : ℕ) → k ≡ key.Literal c → ⊥) → key_text k ≡ key_word k
+word_alone key.Up other = refl
+word_alone key.Down other = refl
+word_alone key.Left other = refl
+word_alone key.Right other = refl
+word_alone key.Back other = refl
+word_alone key.Play other = refl
+word_alone key.Ok other = refl
+word_alone key.Rewind other = refl
+word_alone key.FastForward other = refl
+word_alone key.Replay other = refl
+word_alone key.Options other = refl
+word_alone (key.Literal c) other = absurd (other c refl)
 
 last_differs : (s a b : List ℕ) (x y : ℕ) → s ≡ a ++ x ∷ [] → s ≡ b ++ y ∷ [] → x ≡ y
 last_differs s a b x y p q = let e = sym (end_rest s (x ∷ []) a p) ∙ end_rest s (y ∷ []) b q in cc
@@ -141,7 +156,7 @@ spaced rest a n h =
 turn_parts : (rest : List ℕ) (at a n : ℕ) → IsTurn rest a n → at ≡ length (decimal a) → TurnIs rest at (event.Turn a n)
 turn_parts rest at a n h is =
     let behind : drop (at + 1) rest ≡ decimal n =
-        ap (λ k. drop (k + 1) rest) is ∙ ap (drop (length (decimal a) + 1)) h.2 ∙ drop-append-add (decimal a) (32 ∷ decimal n) 1 in
+    ap (λ k. drop (k + 1) rest) is ∙ ap (drop (length (decimal a) + 1)) h.2 ∙ drop-append-add (decimal a) (32 ∷ decimal n) 1 in
     record {
       actor = a;
       steps = n;
@@ -154,8 +169,8 @@ turn_parts rest at a n h is =
 
 turn_line : (rest : List ℕ) (a n : ℕ) → Says (codes "turn " ++ rest) (event.Turn a n) → IsTurn rest a n
 turn_line rest a n h =
-    let same : rest ≡ (decimal a ++ 32 ∷ []) ++ decimal n = ap (drop 5) h.spelled in
-    (h.in_range.0, h.in_range.1, same ∙ append_assoc (decimal a) (32 ∷ []) (decimal n))
+    let same : rest ≡ decimal a ++ 32 ∷ decimal n = ap (drop 5) h.spelled in
+    (h.in_range.0, h.in_range.1, same)
 
 pub turn_found : (rest : List ℕ) (at : ℕ) (e : Event) → Some at ≡ position is_space rest → Says (codes "turn " ++ rest) e → TurnIs rest at e
 turn_found rest at (event.Key k p) found h = absurd (differ 116 107 _ _ refl h.spelled)
@@ -189,4 +204,4 @@ turn_says rest at a n small_a small_n found front back =
     let mid : drop at rest ≡ get_or rest at 0 ∷ drop (at + 1) rest = rw add-one (drop-cons rest at 0 within) in
     let tail : drop at rest ≡ 32 ∷ decimal n = mid ∙ ap (λ b. b ∷ drop (at + 1) rest) space ∙ ap (λ r. 32 ∷ r) behind in
     let whole : rest ≡ decimal a ++ 32 ∷ decimal n = sym (take-append-drop at rest) ∙ ap (λ f. f ++ drop at rest) front ∙ ap (λ t. decimal a ++ t) tail in
-    record { in_range = (small_a, small_n); spelled = ap (λ r. codes "turn " ++ r) (whole ∙ sym (append_assoc (decimal a) (32 ∷ []) (decimal n))) }
+    record { in_range = (small_a, small_n); spelled = ap (λ r. codes "turn " ++ r) whole }

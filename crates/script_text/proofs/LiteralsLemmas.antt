@@ -1,18 +1,16 @@
 -- Escapes and characters.
-use Rattle.std.proofs.Common.{◌≡◌, ◌≢◌, ◌↔◌, ℕ, zero, suc, ◌+◌, ◌^◌, ◌<◌, ◌≤◌, Bool, true, false, ◌==◌, ◌&&◌, not, nat_lt, List, [], ◌∷◌, ◌++◌, length, take, drop, get_or, cond, Option, Some, None, IfSome, MatchOption, encode_utf8, Bor, nat_eq, sym, refl, ap, ◌∙◌, subst, arith, append_assoc, append-nil, ltb, ◌||◌, inl, inr, ⊎_elim, length-append, All, slice_set, add-one, drop-cons}
+use Rattle.std.proofs.Common.{◌≡◌, ◌≢◌, ◌↔◌, ℕ, ◌+◌, ◌<◌, ◌≤◌, true, false, not, List, [], ◌∷◌, ◌++◌, length, take, drop, get_or, Option, MatchOption, encode_utf8, Bor, nat_eq, sym, refl, ap, ◌∙◌, subst, arith, append_assoc, append-nil, ltb, ◌||◌, ⊎_elim, length-append, All, slice_set, add-one, drop-cons}
 use Rattle.std.specs.Char.{IsScalar, is_ascii_alphanumeric}
 use Rattle.std.specs.Cmp.Lexicographic.{pointwise}
 use Rattle.std.proofs.Math.Utf8.{encode, scalar_cases}
-use Rattle.std.proofs.lemmas.Bool.{cond-true, cond-false, cond_both, cases_Bool, agree_below_at, lt-ltb, ltb-true, le-ltb, cases_lt, not_from_true, not_from_false, or_left}
-use Rattle.std.proofs.lemmas.List.{append_cancel_left, drop_more, take_more_set}
+use Rattle.std.proofs.lemmas.Bool.{cond-true, cond-false, cond_both, cases_Bool, agree_below_at, lt-ltb, ltb-true, le-ltb, cases_lt}
+use Rattle.std.proofs.lemmas.List.{append_cancel_left, take_more_set}
 use Rattle.std.proofs.lemmas.List.Elements.{All-nil, All-cons}
 use Rattle.std.proofs.lemmas.Str.{encode_same, length-encode, len_utf8_bounds}
 use Rattle.percent_encoding.proofs.PercentLemmas.{IsByte, round_trip, percent_encode-nil, percent_encode_escaped, percent_encode_kept}
-use Rattle.percent_encoding.proofs.AsciiSetLemmas.{kept_from_outside, escaped_from_inside}
 use Rattle.percent_encoding.proofs.StandardFacts.{non_alphanumeric}
 use Rattle.std.proofs.lemmas.Bool.Decides.{Decides-eqb, nat_tests}
 use Rattle.std.proofs.lemmas.Slice.Eq.{strip_prefix_is}
-use Rattle.std.specs.List.{flat_map}
 use Rattle.percent_encoding.specs.AsciiSet.{should_percent_encode, contains}
 use Rattle.percent_encoding.specs.Percent.{percent_encode, percent_encode_byte, percent_decode}
 use Rattle.percent_encoding.specs.declared.ascii_set.TheConstants.{NON_ALPHANUMERIC}
@@ -66,9 +64,10 @@ Same text bytes rest left = (text ≡ escaped bytes) ↔ (rest ≡ escaped left)
 pub same_more : (text bytes rest more : List ℕ) (i : ℕ) → i < length bytes → Same text bytes rest (drop i bytes)
     → rest ≡ escaped_byte (get_or bytes i 0) ++ more → Same text bytes more (drop (i + 1) bytes)
 same_more text bytes rest more i within so_far begins =
-    let at = escaped_at bytes i within in
-    (λ is. append_cancel_left (escaped_byte (get_or bytes i 0)) more (escaped (drop (i + 1) bytes)) (sym begins ∙ so_far.0 is ∙ at),
-        λ is. so_far.1 (begins ∙ ap (λ m. escaped_byte (get_or bytes i 0) ++ m) is ∙ sym at))
+    let at = escaped_at bytes i within in (
+      λ is. append_cancel_left (escaped_byte (get_or bytes i 0)) more (escaped (drop (i + 1) bytes)) (sym begins ∙ so_far.0 is ∙ at),
+      λ is. so_far.1 (begins ∙ ap (λ m. escaped_byte (get_or bytes i 0) ++ m) is ∙ sym at),
+    )
 
 -- what is escaped decodes to itself
 
@@ -79,17 +78,20 @@ encode_bytes c scalar =
     cond_both (ltb c 128) _ _ (All IsByte)
     (λ e. let small = ltb-true c 128 e in bytes_1 c (omega arith))
     (λ _. cond_both (ltb c 2048) _ _ (All IsByte)
-        (λ e. let small = ltb-true c 2048 e in bytes_2 _ _ (omega arith) (omega arith))
-        (λ _. cond_both (ltb c 65536) _ _ (All IsByte)
-            (λ e. let small = ltb-true c 65536 e in bytes_3 _ _ _ (omega arith) (omega arith) (omega arith))
-            (λ _. bytes_4 _ _ _ _ (omega arith) (omega arith) (omega arith) (omega arith))))
+    (λ e. let small = ltb-true c 2048 e in bytes_2 _ _ (omega arith) (omega arith))
+    (λ _. cond_both (ltb c 65536) _ _ (All IsByte)
+    (λ e. let small = ltb-true c 65536 e in bytes_3 _ _ _ (omega arith) (omega arith) (omega arith))
+    (λ _. bytes_4 _ _ _ _ (omega arith) (omega arith) (omega arith) (omega arith))))
   where
     bytes_1 : (a : ℕ) → a < 256 → All IsByte (a ∷ [])
     bytes_1 a ha = All-cons IsByte a [] ha (All-nil IsByte)
+
     bytes_2 : (a b : ℕ) → a < 256 → b < 256 → All IsByte (a ∷ b ∷ [])
     bytes_2 a b ha hb = All-cons IsByte a (b ∷ []) ha (bytes_1 b hb)
+
     bytes_3 : (a b d : ℕ) → a < 256 → b < 256 → d < 256 → All IsByte (a ∷ b ∷ d ∷ [])
     bytes_3 a b d ha hb hd = All-cons IsByte a (b ∷ d ∷ []) ha (bytes_2 b d hb hd)
+
     bytes_4 : (a b d e : ℕ) → a < 256 → b < 256 → d < 256 → e < 256 → All IsByte (a ∷ b ∷ d ∷ e ∷ [])
     bytes_4 a b d e ha hb hd he = All-cons IsByte a (b ∷ d ∷ e ∷ []) ha (bytes_3 b d e hb hd he)
 
@@ -99,23 +101,23 @@ unfolding should_percent_encode
 escapes_byte b =
     ⊎_elim
     (λ h. ap (λ t. not t || contains NON_ALPHANUMERIC b) (lt-ltb b 128 h)
-        ∙ agree_below_at (contains NON_ALPHANUMERIC) (λ b. not (is_ascii_alphanumeric b)) 128 b non_alphanumeric h)
+    ∙ agree_below_at (contains NON_ALPHANUMERIC) (λ b. not (is_ascii_alphanumeric b)) 128 b non_alphanumeric h)
     (λ h. ap (λ t. not t || contains NON_ALPHANUMERIC b) (le-ltb b 128 h) ∙ sym (ap not (beyond_ascii b h)))
     (cases_lt b 128)
   where
     beyond_ascii : (b : ℕ) → 128 ≤ b → is_ascii_alphanumeric b ≡ false
     beyond_ascii b h = grind (arith, nat_tests)
 
-pub percent_encode-escaped : (bs : List ℕ) → percent_encode NON_ALPHANUMERIC bs ≡ escaped bs
-percent_encode-escaped [] = percent_encode-nil NON_ALPHANUMERIC
-percent_encode-escaped (b ∷ bs) =
-    let rest = percent_encode-escaped bs in
+pub percent_encode_escapes : (bs : List ℕ) → percent_encode NON_ALPHANUMERIC bs ≡ escaped bs
+percent_encode_escapes [] = percent_encode-nil NON_ALPHANUMERIC
+percent_encode_escapes (b ∷ bs) =
+    let rest = percent_encode_escapes bs in
     ⊎_elim
     (λ e. percent_encode_kept NON_ALPHANUMERIC b bs (escapes_byte b ∙ ap not e) ∙ ap (λ m. b ∷ m) rest ∙ ap (λ front. front ++ escaped bs) (escaped_plain b e))
     (λ e. percent_encode_escaped NON_ALPHANUMERIC b bs (escapes_byte b ∙ ap not e) ∙ ap (λ m. percent_encode_byte b ++ m) rest
-        ∙ ap (λ front. front ++ escaped bs) (escaped_other b e))
+    ∙ ap (λ front. front ++ escaped bs) (escaped_other b e))
     (cases_Bool (is_ascii_alphanumeric b))
 
 pub decode-escaped : (c : ℕ) → IsScalar c → percent_decode (escaped (encode_utf8 c)) ≡ encode_utf8 c
 decode-escaped c scalar =
-    ap percent_decode (sym (percent_encode-escaped (encode c))) ∙ round_trip NON_ALPHANUMERIC (encode c) refl (encode_bytes c scalar)
+    ap percent_decode (sym (percent_encode_escapes (encode c))) ∙ round_trip NON_ALPHANUMERIC (encode c) refl (encode_bytes c scalar)

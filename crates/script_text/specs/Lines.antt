@@ -11,7 +11,7 @@ press_word pressed = if pressed then codes " press" else codes " release"
 -- the line of an event, without the LF that ends it
 abbrev pub line_of : Event → List ℕ
 line_of (Key key pressed) = codes "key " ++ key_text key ++ press_word pressed
-line_of (Turn actor steps) = codes "turn " ++ decimal actor ++ codes " " ++ decimal steps
+line_of (Turn actor steps) = codes "turn " ++ decimal actor ++ (codes " " ++ decimal steps)
 line_of (Round steps) = codes "round " ++ decimal steps
 line_of (Expire actor) = codes "expire " ++ decimal actor
 

@@ -1,5 +1,5 @@
 -- Numbers without signs and leading zeros.
-use Rattle.std.specs.Prelude.{ℕ, Bool, ◌==◌, ◌&&◌, ◌||◌, not, nat_lt, List, length, slice_index}
+use Rattle.std.specs.Prelude.{ℕ, Bool, ◌==◌, ◌&&◌, not, nat_lt, List, length, slice_index}
 
 -- the text has no `+` in front, and no zero in front of another byte
 abbrev pub is_plain : List ℕ → Bool

@@ -5,6 +5,11 @@ mod key_words;
 mod literal;
 mod number;
 mod read;
+mod write;
 
 pub use literal::decoded_character;
 pub use read::read_line;
+pub use write::write_line;
+
+#[cfg(test)]
+mod tests;

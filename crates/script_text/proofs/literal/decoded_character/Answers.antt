@@ -1,4 +1,4 @@
-use Rattle.std.proofs.Common.{◌≡◌, ◌<◌, ◌++◌, length-set, length, take, sym, ap, ◌∙◌, subst, arith, length-take}
+use Rattle.std.proofs.Common.{◌≡◌, ◌++◌, length-set, length, take, sym, ap, ◌∙◌, arith, length-take}
 use Rattle.script_text.proofs.LiteralsLemmas.{not_longer, one_more}
 use Rattle.script_text.proofs.literal.decoded_character.Goals as goal
 

@@ -1,4 +1,4 @@
-use Rattle.std.proofs.Common.{◌≡◌, Some, IsUtf8, sym, ap, ◌∙◌, subst, arith}
+use Rattle.std.proofs.Common.{Some, IsUtf8, sym, ap, ◌∙◌, subst}
 use Rattle.std.proofs.lemmas.Str.{IsUtf8-encode}
 use Rattle.script_text.proofs.LiteralsLemmas.{only_one, not_empty, begins_full}
 use Rattle.script_text.proofs.literal.only_character.Goals as goal

@@ -1,4 +1,3 @@
-use Rattle.std.proofs.Common.{Some, ap, sym, ◌∙◌}
 use Rattle.script_text.proofs.LinesLemmas.{press_found}
 use Rattle.script_text.proofs.read.read_press.Goals as goal
 

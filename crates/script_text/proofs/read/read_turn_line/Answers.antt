@@ -1,6 +1,3 @@
-use Rattle.std.proofs.Common.{◌≡◌, ◌+◌, ◌-◌, length, take, drop, Some, sym, ap, ◌∙◌, arith, length-drop}
-use Rattle.std.proofs.lemmas.List.{take_all}
-use Rattle.std.specs.Fmt.{decimal}
 use Rattle.script_text.proofs.LinesLemmas.{turn_found, turn_has_space, turn_says}
 use Rattle.script_text.proofs.read.read_turn_line.Goals as goal
 
