@@ -6,7 +6,7 @@ use Rattle.std.specs.Str.{bytes_eq}
 use Rattle.outside.specs.declared.files.FileBytes.{FileBytes}
 use Rattle.outside.specs.declared.files.FileRead.{FileRead}
 use Rattle.outside.specs.Folder.{whole_path, paths_below, content_of, read_of}
-use Rattle.outside.specs.Listed.{listed_is_readable}
+use Rattle.outside.proofs.Listed.{listed_is_readable}
 use Rattle.channel_run.specs.FirstFiles.{is_first_listing, held_by, two_files}
 use Rattle.channel_run.specs.declared.folder.TwoFiles.{TwoFiles}
 

@@ -16,7 +16,7 @@ use Rattle.std.specs.Str.{bytes_eq}
 use Rattle.std.specs.Str.Pattern.{FindsTextPrefix, StripsPrefix}
 use Rattle.std.proofs.Common.{Bor}
 use Rattle.outside.specs.declared.files.FileBytes.{FileBytes}
-use Rattle.outside.specs.Listed.{after_prefix-append, after_prefix-Some, below_root-Some}
+use Rattle.outside.proofs.Listed.{after_prefix-append, after_prefix-Some, below_root-Some}
 use Rattle.outside.specs.Folder.{after_prefix, below_root, paths_below, content_of, IsAscending, IsRead, IsListing, MayFollow, MayCome}
 
 none_after : (o : Option (List ℕ)) (p s : List ℕ) → after_prefix p s ≡ o → ((rest : List ℕ) → s ≢ p ++ rest) → None ≡ o

@@ -1,5 +1,6 @@
 pub mod Appending
 pub mod Below
 pub mod Endings
+pub mod Listed
 pub mod Names
 pub mod Parts

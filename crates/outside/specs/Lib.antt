@@ -1,7 +1,6 @@
 pub mod Causes
 pub mod Door
 pub mod Folder
-pub mod Listed
 pub mod Place
 pub mod Refusal
 pub mod Status

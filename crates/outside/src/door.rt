@@ -14,15 +14,13 @@ pub enum DoorState {
     Open(u16),
 }
 
-/// A connection.
+/// A connection. Whether it was accepted is told by its place: a door keeps how many were.
 #[derive(Debug, Drop)]
 pub struct Connection {
     /// All bytes that the other side sends.
     pub incoming: Bytes,
     /// The bytes that were written to the other side.
     pub outgoing: Bytes,
-    /// Whether it was accepted.
-    pub accepted: bool,
     /// How many of the incoming bytes were given to a reader.
     pub given: usize,
     /// How many bytes had been given before the first call on it that failed, `None` while no call has failed.
@@ -31,20 +29,19 @@ pub struct Connection {
 
 /// A door. Its failures at `listen` and `accept` are counted apart from those on a connection, at `read` and `write`.
 pub trait Door {
-    ghost use Rattle.std.specs.Prelude.{◌≡◌, ℕ, ◌<◌, List, Option, length, All, IfOk, OnOk, OnErr};
+    ghost use Rattle.std.specs.Prelude.{◌≡◌, ℕ, ◌<◌, Option, length, IfOk, OnOk, OnErr};
     ghost use Rattle.std.specs.Option.{ForSome};
     ghost use Rattle.std.specs.Io.{ReadsAtMost, WritesAtMost};
     ghost use Rattle.outside.specs.Causes.{CountsFailure};
-    ghost use Rattle.outside.specs.declared.door.Connection.{Connection};
     ghost use Rattle.outside.specs.declared.door.DoorState.{DoorState};
     ghost use Rattle.outside.specs.declared.door.DoorState.TheVariants.{Closed, Listening};
-    ghost use Rattle.outside.specs.Door.{IsListening, IsOpen, has_waiting, AcceptMoves, AcceptTakes, GivesNext, ReadMarks, WriteMarks, listening_again, IsFresh};
+    ghost use Rattle.outside.specs.Door.{Connections, IsListening, IsOpen, IsKept, has_waiting, AcceptMoves, AcceptTakes, GivesNext, ReadMarks, WriteMarks, listening_again};
 
     /// What the door is doing, which is always told.
     ghost state: { Self → DoorState };
 
-    /// The connections in the order in which they come, where they are told.
-    ghost connections: { Self → Option (List Connection) };
+    /// The connections in the order in which they come, and how many of them were accepted, where they are told.
+    ghost connections: { Self → Option Connections };
 
     /// How often `listen` or `accept` has failed, at most 2^64 - 1.
     ghost faults: { Self → ℕ };
@@ -66,7 +63,7 @@ pub trait Door {
     fn accept(&mut self) -> Result<bool, Failed>
         requires { IsListening (state self.old) }
         ensures state { AcceptMoves result (state self.old) (state self.new) }
-        ensures told { IfOk result (λ answer. ForSome (connections self.old) (λ all. answer ≡ has_waiting all)) }
+        ensures told { IfOk result (λ answer. ForSome (connections self.old) (λ c. answer ≡ has_waiting c)) }
         ensures connections { AcceptTakes result (connections self.old) (connections self.new) }
         ensures cause { CountsFailure (faults self.old) (faults self.new) result }
         ensures others { connection_faults self.new ≡ connection_faults self.old };
@@ -103,6 +100,7 @@ pub trait Door {
         ensures faults { faults self.new ≡ faults self.old }
         ensures others { connection_faults self.new ≡ connection_faults self.old };
 
-    /// At a closed door no connection was accepted, none has bytes given or written, and no call on one failed.
-    ghost closed_is_fresh: { (d : Self) → state d ≡ Closed → ForSome (connections d) (All IsFresh) };
+    /// At a closed door no connection was accepted, and at one with a connection open one was. A connection that was not
+    /// accepted has no bytes given or written, and no call on it failed. No more bytes were given than there are.
+    ghost kept: { (d : Self) → ForSome (connections d) (IsKept (state d)) };
 }

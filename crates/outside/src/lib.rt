@@ -8,6 +8,8 @@
 
 pub mod calls;
 pub mod door;
+#[cfg(test)]
+mod door_tests;
 pub mod faults;
 pub mod files;
 pub mod laws;

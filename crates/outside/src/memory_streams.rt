@@ -10,16 +10,16 @@ use crate::streams::{Sink, Source};
 use chan_values::Bytes;
 use std::alloc::Global;
 
-// Copies as many of the bytes from a place on as there is room for.
+/// Copies as many of the bytes from a place on as there is room for, and at most so many.
 #[tactic(auto, using(crate::proofs::Parts::read_front, crate::proofs::Parts::read_end))]
-fn read_from(bytes: &[u8], from: usize, into: &mut [u8]) -> usize
+pub(crate) fn read_from(bytes: &[u8], from: usize, most: usize, into: &mut [u8]) -> usize
     requires { from ≤ length bytes.now }
     ensures in_range { from + result ≤ length bytes.now }
     ensures room { result ≤ length into.new }
     ensures front { drop from bytes.now ≡ take result into.new ++ drop (from + result) bytes.now }
-    ensures end { result ≡ 0 → 0 < length into.new → drop (from + result) bytes.now ≡ [] }
+    ensures end { result ≡ 0 → 0 < most → 0 < length into.new → drop (from + result) bytes.now ≡ [] }
 {
-    let count = (bytes.len() - from).min(into.len());
+    let count = (bytes.len() - from).min(into.len()).min(most);
     into[..count].copy_from_slice(&bytes[from..from + count]);
     count
 }
@@ -67,7 +67,7 @@ impl Source for MemorySource {
         ensures all { self.new.bytes ≡ self.old.bytes }
     {
         self.calls.begin()?;
-        let count = read_from(self.bytes.as_slice(), self.given, into);
+        let count = read_from(self.bytes.as_slice(), self.given, into.len(), into);
         self.given += count;
         Ok(count)
     }

@@ -46,18 +46,26 @@ impl fmt::Display for GivenNumber<'_> {
 
 /// Writes the refusal of a folder at the end, without LF: `refused F` and the fault's number, then where they are given a space
 /// and the path, `:` and the line, `:` and the column, and a space and the last item. After an `Err` nothing has changed.
-pub fn write_fault(
-    alloc: Global,
-    fault: &FolderFault,
-    out: &mut Vec<u8>,
-) -> Result<(), NoMemory>
+pub fn write_fault(alloc: Global, fault: &FolderFault, out: &mut Vec<u8>) -> Result<(), NoMemory>
     ensures ok { OnOk result (out.new.items ≡ out.old.items ++ refusal_text fault.now) }
     ensures err { OnErr result (out.new.items ≡ out.old.items) }
 {
-    let path = GivenText { mark: " ", text: fault.path.as_str() };
-    let line = GivenNumber { mark: ":", number: fault.line };
-    let column = GivenNumber { mark: ":", number: fault.column };
-    let name = GivenText { mark: " ", text: fault.name.as_str() };
+    let path = GivenText {
+        mark: " ",
+        text: fault.path.as_str(),
+    };
+    let line = GivenNumber {
+        mark: ":",
+        number: fault.line,
+    };
+    let column = GivenNumber {
+        mark: ":",
+        number: fault.column,
+    };
+    let name = GivenText {
+        mark: " ",
+        text: fault.name.as_str(),
+    };
     let Ok(text) = format!(in alloc; "refused F{}{path}{line}{column}{name}", fault.number) else {
         return Err(NoMemory);
     };

@@ -1,16 +1,14 @@
 //! What no clause says: the happy paths, and that the forms in memory fail where they are told to.
 ghost use Rattle.std.specs.Prelude.{◌≡◌, ◌<◌, length, IfOk};
-ghost use Rattle.outside.specs.declared.door.DoorState.TheVariants.{Closed};
 
 use crate::calls::Calls;
-use crate::door::{Door, DoorState};
 use crate::faults::{Failed, FilesFault};
 use crate::files::{FileBytes, FileRead, Files};
-use crate::listing::listing_of;
-use crate::memory_door::MemoryDoor;
+use crate::listing::{Listing, listing_of};
 use crate::memory_files::MemoryFiles;
 use crate::memory_streams::{MemorySink, MemorySource};
 use crate::paths::{is_read, whole_path};
+use crate::refusal::write_fault;
 use crate::status::Status;
 use crate::streams::{Sink, Source};
 use chan_values::{Bytes, FolderFault, Text};
@@ -145,7 +143,10 @@ fn paths_in_order_are_a_listing(rt: HostRuntime) -> Result<(), Fail> {
         match listing_of(alloc, names.as_slice()) {
             Ok(listing) => {
                 assert!(rt; !fails);
-                assert_eq!(rt; listing.len(), names.len());
+                assert_eq!(rt; listing.len(), paths.len());
+                for (path, want) in listing.iter().zip(paths) {
+                    assert_eq!(rt; path.as_str(), *want);
+                }
             }
             Err(fault) => {
                 assert!(rt; fails);
@@ -156,7 +157,7 @@ fn paths_in_order_are_a_listing(rt: HostRuntime) -> Result<(), Fail> {
     Ok(())
 }
 
-#[tactic(auto, using(crate::specs::Listed::listed_is_readable))]
+#[tactic(auto, using(crate::proofs::Listed::listed_is_readable))]
 fn read_at_most<F: Files>(
     alloc: Global,
     files: &mut F,
@@ -186,6 +187,129 @@ fn a_listed_file_is_read_up_to_the_limit(rt: HostRuntime) -> Result<(), Fail> {
             }
             FileRead::Longer => assert!(rt; !whole),
         }
+    }
+    Ok(())
+}
+
+// Appends at each call in turn, and answers how many of the calls failed.
+fn append_each<F: Files>(files: &mut F, pieces: &[(&str, &str)]) -> Result<u64, FilesFault> {
+    let mut failed = 0;
+    for (path, piece) in pieces {
+        if piece.is_empty() {
+            continue;
+        }
+        match files.append(path, piece.as_bytes()) {
+            Ok(()) => {}
+            Err(FilesFault::Failed) => failed += 1,
+            Err(FilesFault::NoMemory) => return Err(FilesFault::NoMemory),
+        }
+    }
+    Ok(failed)
+}
+
+#[test]
+fn what_is_appended_stands_at_the_end_of_its_file(rt: HostRuntime) -> Result<(), Fail> {
+    let alloc = rt.alloc();
+    // the call that fails, the appended pieces, and the files
+    let rows = [
+        (
+            9,
+            [("b", "one"), ("b", "two"), ("b", "three")].as_slice(),
+            [("b", "onetwothree")].as_slice(),
+        ),
+        (
+            9,
+            [("b", "1"), ("a", "2"), ("c", "3"), ("a", "4"), ("ab", "5")].as_slice(),
+            [("a", "24"), ("ab", "5"), ("b", "1"), ("c", "3")].as_slice(),
+        ),
+        (
+            1,
+            [("b", "1"), ("b", "2"), ("b", "3")].as_slice(),
+            [("b", "13")].as_slice(),
+        ),
+        (
+            1,
+            [("b", "1"), ("a", "2"), ("c", "3")].as_slice(),
+            [("b", "1"), ("c", "3")].as_slice(),
+        ),
+        (0, [("b", "1")].as_slice(), [].as_slice()),
+    ];
+    for (failing, pieces, want) in rows {
+        let mut files = MemoryFiles::new(alloc, calls_failing(alloc, &[failing])?);
+        let failed = append_each(&mut files, pieces)?;
+        assert_eq!(rt; files.calls.faults, failed);
+        assert_eq!(rt; files.calls.made, pieces.len() as u64);
+        assert_eq!(rt; files.files.len(), want.len());
+        for (file, (path, bytes)) in files.files.as_slice().iter().zip(want) {
+            assert_eq!(rt; file.path.as_str(), *path);
+            assert_eq!(rt; file.bytes.as_slice(), bytes.as_bytes());
+        }
+    }
+    Ok(())
+}
+
+#[test]
+fn a_listing_keeps_its_files(rt: HostRuntime) -> Result<(), Fail> {
+    let alloc = rt.alloc();
+    let mut listing = Listing::new(alloc);
+    assert!(rt; listing.is_empty());
+    for path in ["a", "b"] {
+        assert!(rt; listing.may_push(path));
+        let file = FileBytes {
+            path: text_of(alloc, path)?,
+            bytes: bytes_of(alloc, path.as_bytes())?,
+        };
+        assert!(rt; listing.may_push(file.path.as_str()));
+        listing.push(file)?;
+    }
+    may_be_shared(&listing);
+    assert!(rt; !listing.may_push("b"));
+    assert_eq!(rt; listing.len(), 2);
+    match listing.get(1) {
+        Some(file) => assert_eq!(rt; file.path.as_str(), "b"),
+        None => assert!(rt; false),
+    }
+    assert!(rt; listing.get(2).is_none());
+    Ok(())
+}
+
+#[test]
+fn a_refusal_says_what_is_given(rt: HostRuntime) -> Result<(), Fail> {
+    let alloc = rt.alloc();
+    let rows = [
+        (3, "", 0, 0, "", "refused F3"),
+        (2, "source/a.brs", 0, 0, "", "refused F2 source/a.brs"),
+        (6, "source/a.brs", 9, 4, "", "refused F6 source/a.brs:9:4"),
+        (
+            5,
+            "source/main.brs",
+            2,
+            5,
+            "FloatLiteral",
+            "refused F5 source/main.brs:2:5 FloatLiteral",
+        ),
+        (
+            9,
+            "components/b.xml",
+            1,
+            0,
+            "a",
+            "refused F9 components/b.xml:1 a",
+        ),
+        (255, "", 0, 4294967295, "x", "refused F255:4294967295 x"),
+    ];
+    for (number, path, line, column, name, want) in rows {
+        let fault = FolderFault {
+            number,
+            path: text_of(alloc, path)?,
+            line,
+            column,
+            name: text_of(alloc, name)?,
+        };
+        let mut out = Vec::from_slice(alloc, b"> ")?;
+        write_fault(alloc, &fault, &mut out)?;
+        let written = format!(in alloc; "> {want}")?;
+        assert_eq!(rt; out.as_slice(), written.as_bytes());
     }
     Ok(())
 }
@@ -242,33 +366,6 @@ fn each_form_fails_at_the_calls_that_it_is_told(rt: HostRuntime) -> Result<(), F
     assert_eq!(rt; files.roots.len(), 2);
     assert_eq!(rt; input.given, 2);
     assert_eq!(rt; out.bytes.len(), 2);
-    Ok(())
-}
-
-fn accepted<D: Door>(door: &mut D, port: u16) -> Result<bool, Failed>
-    requires { D.state door.old ≡ Closed }
-{
-    door.listen(port)?;
-    door.accept()
-}
-
-#[test]
-fn nobody_comes_to_a_door_without_connections(rt: HostRuntime) -> Result<(), Fail> {
-    let alloc = rt.alloc();
-    for (failing, faults, state) in [
-        ([].as_slice(), 0, DoorState::Listening(80)),
-        ([0].as_slice(), 1, DoorState::Closed),
-        ([1].as_slice(), 1, DoorState::Listening(80)),
-    ] {
-        let mut door = MemoryDoor::new(calls_failing(alloc, failing)?, calls_failing(alloc, &[])?);
-        match accepted(&mut door, 80) {
-            Ok(answer) => assert!(rt; !answer),
-            Err(_) => assert_eq!(rt; faults, 1),
-        }
-        assert_eq!(rt; door.calls.faults, faults);
-        assert_eq!(rt; door.connection_calls.made, 0);
-        assert_eq!(rt; door.state, state);
-    }
     Ok(())
 }
 

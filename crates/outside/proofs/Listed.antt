@@ -40,7 +40,7 @@ below_root-Some root path rest e =
     (after_prefix-Some (root ++ 47 ∷ []) path rest p.0, p.1)
 
 -- a path that can be read below a root
-abbrev pub IsReadable : List ℕ → List FileBytes → List ℕ → Type 0
+abbrev IsReadable : List ℕ → List FileBytes → List ℕ → Type 0
 IsReadable root files path = IsSome (content_of files (whole_path root path))
 
 one_more_file : (b : Bool) (file : FileBytes) (files : List FileBytes) (whole : List ℕ) → IsSome (content_of files whole)
