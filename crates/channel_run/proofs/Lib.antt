@@ -1,3 +1,4 @@
+mod FirstExamples
 mod ManifestExamples
 pub mod FirstBodies
 pub mod FirstRuns

@@ -1,5 +1,8 @@
 -- The bytes of a transcript line.
-use Rattle.std.specs.Prelude.{ℕ, List, [], ◌∷◌, ◌++◌, codes, decimal}
+use Rattle.std.specs.Prelude.{ℕ, Bool, List, [], ◌∷◌, ◌++◌, codes, decimal, if◌then◌else◌}
+use Rattle.script_text.specs.Lines.{line_of}
+use Rattle.chan_values.specs.declared.key.Key.{Key}
+use Rattle.chan_values.specs.declared.event.Event.TheVariants as event
 use Rattle.chan_values.specs.declared.end_reason.EndReason.{EndReason}
 use Rattle.chan_values.specs.declared.end_reason.EndReason.TheVariants as reason
 use Rattle.chan_values.specs.ErrorNumber.{error_number}
@@ -31,10 +34,6 @@ reason_word reason.Steps = codes "steps"
 reason_word reason.Script = codes "script"
 reason_word reason.Unbuilt = codes "unbuilt"
 
--- the words of a line, which an LF ends
-abbrev pub ended : List ℕ → List ℕ
-ended words = words ++ 10 ∷ []
-
 -- ---- each line by its parts
 
 abbrev pub print_line : ℕ → List ℕ → List ℕ
@@ -49,6 +48,11 @@ ended_line actor = decimal actor ++ (codes " ended" ++ 10 ∷ [])
 abbrev pub end_line : EndReason → List ℕ
 end_line reason = codes "end " ++ (reason_word reason ++ 10 ∷ [])
 
+-- a key as its script line spells it, and whether the node's handler took it
+abbrev pub key_line : Key → Bool → ℕ → Bool → List ℕ
+key_line key press node handled =
+    codes "0 " ++ (line_of (event.Key key press) ++ (codes " " ++ (decimal node ++ (codes " " ++ ((if handled then codes "true" else codes "false") ++ 10 ∷ [])))))
+
 -- ---- and all of them
 
 abbrev pub trace_text : TraceLine → List ℕ
@@ -57,9 +61,10 @@ trace_text (line.Error actor code path at) = error_line actor (error_number code
 trace_text (line.Post actor number) = decimal actor ++ (codes " post " ++ (decimal number ++ 10 ∷ []))
 trace_text (line.Begin entry) = codes "0 begin " ++ (entry_text entry ++ 10 ∷ [])
 trace_text (line.End entry) = codes "0 end " ++ (entry_text entry ++ 10 ∷ [])
-trace_text (line.Dropped actor number) = codes "0 drop " ++ (dotted actor number ++ 10 ∷ [])
+trace_text (line.Dropped actor number) = codes "0 drop " ++ (decimal actor ++ (codes "." ++ (decimal number ++ 10 ∷ [])))
 trace_text (line.Stop actor) = codes "0 stop " ++ (decimal actor ++ 10 ∷ [])
 trace_text (line.Start actor node) = decimal actor ++ (codes " start " ++ (decimal node ++ 10 ∷ []))
 trace_text (line.Notify node field to) = codes "0 notify " ++ (decimal node ++ (codes "." ++ (escaped field.now ++ (codes " " ++ (observer_text to ++ 10 ∷ [])))))
+trace_text (line.KeyVisit key press node handled) = key_line key press node handled
 trace_text (line.Ended actor) = ended_line actor
 trace_text (line.RunEnd reason) = end_line reason

@@ -3,6 +3,7 @@
 
 mod entry;
 mod escapes;
+mod key_visit;
 mod observer;
 mod report;
 mod trace;

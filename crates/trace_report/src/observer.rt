@@ -1,9 +1,10 @@
 //! What observes a field.
-ghost use Rattle.std.specs.Prelude.{Some};
+ghost use Rattle.std.specs.Prelude.{◌≡◌, IfOk};
+ghost use Rattle.std.specs.String.{string_bytes};
 ghost use Rattle.trace_report.specs.TraceText.{observer_text};
 
-use crate::escapes::Escaped;
-use std::fmt;
+use crate::escapes::escaped;
+use std::alloc::{AllocError, Global};
 
 /// What a change of a field is told to.
 #[derive(Clone, Copy, Debug)]
@@ -14,13 +15,11 @@ pub enum Observer<'a> {
     Port(u32),
 }
 
-impl fmt::Display for Observer<'_> {
-    ghost output = { λ to. Some (observer_text to) };
-
-    fn fmt<W: fmt::Write>(&self, f: &mut fmt::Formatter<W>) -> fmt::Result {
-        match self {
-            Observer::Function(name) => write!(f, "{}", Escaped(name)),
-            Observer::Port(port) => write!(f, "port.{port}"),
-        }
+pub(crate) fn observer_text(alloc: Global, to: &Observer<'_>) -> Result<String, AllocError>
+    ensures { IfOk result (λ text. string_bytes text ≡ observer_text to.now) }
+{
+    match to {
+        Observer::Function(name) => Ok(escaped(alloc, name)?.into_string()),
+        Observer::Port(port) => format!(in alloc; "port.{port}"),
     }
 }

@@ -1,10 +1,14 @@
 //! The lines of a report.
-ghost use Rattle.std.specs.Prelude.{◌≡◌, ◌++◌, Some, OnOk, OnErr};
+ghost use Rattle.std.specs.Prelude.{◌≡◌, ◌++◌, Some, IfOk, OnOk, OnErr};
+ghost use Rattle.std.specs.String.{string_bytes};
+ghost use Rattle.chan_values.specs.Escape.{escaped};
+ghost use Rattle.chan_values.specs.ValueText.{value_text};
+ghost use Rattle.chan_values.specs.View.{tree_of};
 ghost use Rattle.trace_report.specs.ReportText.{report_text, parent_text, children_text};
 
-use crate::escapes::Escaped;
-use chan_values::NoMemory;
-use std::alloc::Global;
+use crate::escapes::escaped;
+use chan_values::{NoMemory, Portable, Text, write_value};
+use std::alloc::{AllocError, Global};
 use std::fmt;
 
 /// A line of a report. Nodes and actors are given by their numbers; texts are given as they are, and escaped where the line is
@@ -20,6 +24,22 @@ pub enum ReportLine<'a> {
         parent: Option<u32>,
         children: &'a [u32],
     },
+    /// `field n.id VALUE`: a field of a node, by its folded id, with its value.
+    Field {
+        node: u32,
+        id: &'a str,
+        value: &'a Portable,
+    },
+}
+
+fn value_text(alloc: Global, value: &Portable) -> Result<Text, AllocError>
+    ensures { IfOk result (λ text. text ≡ escaped (value_text (tree_of value.now))) }
+{
+    let mut text = Text::new(alloc);
+    match write_value(alloc, value, &mut text) {
+        Ok(()) => Ok(text),
+        Err(_) => Err(AllocError),
+    }
 }
 
 #[derive(Clone, Copy)]
@@ -53,21 +73,25 @@ impl fmt::Display for Children<'_> {
     }
 }
 
-impl fmt::Display for ReportLine<'_> {
-    ghost output = { λ line. Some (report_text line) };
-
-    fn fmt<W: fmt::Write>(&self, f: &mut fmt::Formatter<W>) -> fmt::Result {
-        match self {
-            ReportLine::Node {
-                node,
-                kind,
-                owner,
-                parent,
-                children,
-            } => {
-                write!(f, "node {node} {} owner {owner}", Escaped(kind))?;
-                write!(f, " parent {} children{}\n", Parent(*parent), Children(children))
-            }
+fn line_text(alloc: Global, line: &ReportLine<'_>) -> Result<String, AllocError>
+    ensures { IfOk result (λ text. string_bytes text ≡ report_text line.now) }
+{
+    match line {
+        ReportLine::Node {
+            node,
+            kind,
+            owner,
+            parent,
+            children,
+        } => {
+            let kind = escaped(alloc, kind)?;
+            let (parent, children) = (Parent(*parent), Children(children));
+            format!(in alloc; "node {node} {} owner {owner} parent {parent} children{children}\n", kind.as_str())
+        }
+        ReportLine::Field { node, id, value } => {
+            let id = escaped(alloc, id)?;
+            let value = value_text(alloc, value)?;
+            format!(in alloc; "field {node}.{} {}\n", id.as_str(), value.as_str())
         }
     }
 }
@@ -81,7 +105,7 @@ pub fn write_report(
     ensures ok { OnOk result (out.new.items ≡ out.old.items ++ report_text line.now) }
     ensures err { OnErr result (out.new.items ≡ out.old.items) }
 {
-    let Ok(text) = line.to_string(alloc) else {
+    let Ok(text) = line_text(alloc, line) else {
         return Err(NoMemory);
     };
     match out.extend_from_slice(text.as_bytes()) {

@@ -1,6 +1,6 @@
 //! Each form of line, with texts that are escaped.
 use crate::{EntryName, Observer, ReportLine, TraceLine, write_report, write_trace};
-use chan_values::{EndReason, ErrorCode};
+use chan_values::{EndReason, ErrorCode, Key, Portable, Text};
 use std::test::Fail;
 
 #[test]
@@ -63,6 +63,24 @@ fn transcript_lines_are_written_one_after_another(rt: HostRuntime) -> Result<(),
             },
             "0 notify 5.content port.65535\n",
         ),
+        (
+            TraceLine::KeyVisit {
+                key: Key::Ok,
+                press: true,
+                node: 2,
+                handled: true,
+            },
+            "0 key OK press 2 true\n",
+        ),
+        (
+            TraceLine::KeyVisit {
+                key: Key::Literal('é'),
+                press: false,
+                node: 7,
+                handled: false,
+            },
+            "0 key Lit_%C3%A9 release 7 false\n",
+        ),
         (TraceLine::Ended { actor: 1 }, "1 ended\n"),
         (TraceLine::RunEnd(EndReason::Main), "end main\n"),
         (TraceLine::RunEnd(EndReason::Error), "end error\n"),
@@ -84,6 +102,9 @@ fn transcript_lines_are_written_one_after_another(rt: HostRuntime) -> Result<(),
 #[test]
 fn report_lines_are_written_one_after_another(rt: HostRuntime) -> Result<(), Fail> {
     let alloc = rt.alloc();
+    let mut text = Text::new(alloc);
+    text.push_str("a\"\n\\")?;
+    let words = Portable::Words(text);
     let rows = [
         (
             ReportLine::Node {
@@ -104,6 +125,22 @@ fn report_lines_are_written_one_after_another(rt: HostRuntime) -> Result<(), Fai
                 children: &[4, 30],
             },
             "node 2 Home\\5cScene\\0a owner 3 parent 1 children 4 30\n",
+        ),
+        (
+            ReportLine::Field {
+                node: 4,
+                id: "a\\b",
+                value: &Portable::Big(-9),
+            },
+            "field 4.a\\5cb -9&\n",
+        ),
+        (
+            ReportLine::Field {
+                node: 30,
+                id: "text",
+                value: &words,
+            },
+            "field 30.text \"a\"\"\\0a\\5c\"\n",
         ),
     ];
     let mut out = Vec::new(alloc);

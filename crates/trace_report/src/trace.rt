@@ -1,13 +1,13 @@
 //! The lines of a transcript.
-ghost use Rattle.std.specs.Prelude.{◌≡◌, ◌++◌, Some, OnOk, OnErr};
+ghost use Rattle.std.specs.Prelude.{◌≡◌, ◌++◌, IfOk, OnOk, OnErr};
 ghost use Rattle.trace_report.specs.TraceText.{trace_text, reason_word};
 
 use crate::entry::EntryName;
-use crate::escapes::Escaped;
-use crate::observer::Observer;
-use chan_values::{EndReason, ErrorCode, NoMemory};
-use std::alloc::Global;
-use std::fmt;
+use crate::escapes::escaped;
+use crate::key_visit::key_visit_line;
+use crate::observer::{Observer, observer_text};
+use chan_values::{EndReason, ErrorCode, Key, NoMemory};
+use std::alloc::{AllocError, Global};
 
 /// A line of a transcript. Actors, nodes and ports are given by their numbers; texts are given as they are, and escaped where the
 /// line is written.
@@ -40,6 +40,13 @@ pub enum TraceLine<'a> {
         field: &'a str,
         to: Observer<'a>,
     },
+    /// `0 key K press node true`: a key visited a node, and whether its handler took it. A released key has `release`.
+    KeyVisit {
+        key: Key,
+        press: bool,
+        node: u32,
+        handled: bool,
+    },
     /// `a ended`: the function of the main actor or of a task returned.
     Ended { actor: u32 },
     /// `end reason`: the run is over. It is the last line.
@@ -59,32 +66,50 @@ fn reason_word(reason: EndReason) -> &'static str
     }
 }
 
-impl fmt::Display for TraceLine<'_> {
-    ghost output = { λ line. Some (trace_text line) };
-
-    fn fmt<W: fmt::Write>(&self, f: &mut fmt::Formatter<W>) -> fmt::Result {
-        match self {
-            TraceLine::Print { actor, text } => write!(f, "{actor} print {}\n", Escaped(text)),
-            TraceLine::Error {
-                actor,
-                code,
-                path,
-                line,
-            } => {
-                let number = code.number();
-                write!(f, "{actor} error {number} {}:{line}\n", Escaped(path))
-            }
-            TraceLine::Post { actor, number } => write!(f, "{actor} post {number}\n"),
-            TraceLine::Begin(entry) => write!(f, "0 begin {entry}\n"),
-            TraceLine::End(entry) => write!(f, "0 end {entry}\n"),
-            TraceLine::Dropped { actor, number } => write!(f, "0 drop {actor}.{number}\n"),
-            TraceLine::Stop { actor } => write!(f, "0 stop {actor}\n"),
-            TraceLine::Start { actor, node } => write!(f, "{actor} start {node}\n"),
-            TraceLine::Notify { node, field, to } => {
-                write!(f, "0 notify {node}.{} {to}\n", Escaped(field))
-            }
-            TraceLine::Ended { actor } => write!(f, "{actor} ended\n"),
-            TraceLine::RunEnd(reason) => write!(f, "end {}\n", reason_word(*reason)),
+fn line_bytes(alloc: Global, line: &TraceLine<'_>) -> Result<Vec<u8>, AllocError>
+    ensures { IfOk result (λ bytes. bytes.items ≡ trace_text line.now) }
+{
+    match line {
+        TraceLine::Print { actor, text } => {
+            let text = escaped(alloc, text)?;
+            Ok(format!(in alloc; "{actor} print {}\n", text.as_str())?.into_bytes())
+        }
+        TraceLine::Error {
+            actor,
+            code,
+            path,
+            line,
+        } => {
+            let number = code.number();
+            let path = escaped(alloc, path)?;
+            Ok(format!(in alloc; "{actor} error {number} {}:{line}\n", path.as_str())?.into_bytes())
+        }
+        TraceLine::Post { actor, number } => {
+            Ok(format!(in alloc; "{actor} post {number}\n")?.into_bytes())
+        }
+        TraceLine::Begin(entry) => Ok(format!(in alloc; "0 begin {entry}\n")?.into_bytes()),
+        TraceLine::End(entry) => Ok(format!(in alloc; "0 end {entry}\n")?.into_bytes()),
+        TraceLine::Dropped { actor, number } => {
+            Ok(format!(in alloc; "0 drop {actor}.{number}\n")?.into_bytes())
+        }
+        TraceLine::Stop { actor } => Ok(format!(in alloc; "0 stop {actor}\n")?.into_bytes()),
+        TraceLine::Start { actor, node } => {
+            Ok(format!(in alloc; "{actor} start {node}\n")?.into_bytes())
+        }
+        TraceLine::Notify { node, field, to } => {
+            let field = escaped(alloc, field)?;
+            let to = observer_text(alloc, to)?;
+            Ok(format!(in alloc; "0 notify {node}.{} {to}\n", field.as_str())?.into_bytes())
+        }
+        TraceLine::KeyVisit {
+            key,
+            press,
+            node,
+            handled,
+        } => key_visit_line(alloc, *key, *press, *node, *handled),
+        TraceLine::Ended { actor } => Ok(format!(in alloc; "{actor} ended\n")?.into_bytes()),
+        TraceLine::RunEnd(reason) => {
+            Ok(format!(in alloc; "end {}\n", reason_word(*reason))?.into_bytes())
         }
     }
 }
@@ -98,10 +123,10 @@ pub fn write_trace(
     ensures ok { OnOk result (out.new.items ≡ out.old.items ++ trace_text line.now) }
     ensures err { OnErr result (out.new.items ≡ out.old.items) }
 {
-    let Ok(text) = line.to_string(alloc) else {
+    let Ok(bytes) = line_bytes(alloc, line) else {
         return Err(NoMemory);
     };
-    match out.extend_from_slice(text.as_bytes()) {
+    match out.extend_from_slice(bytes.as_slice()) {
         Ok(()) => Ok(()),
         Err(_) => Err(NoMemory),
     }
