@@ -14,7 +14,8 @@ use Rattle.first_form.specs.declared.tree.Operand.TheVariants as operand
 use Rattle.first_form.specs.declared.tree.Sum.{Sum}
 use Rattle.first_form.specs.declared.tree.Term.{Term}
 use Rattle.first_form.specs.FirstNames.{is_known, operand_known, sum_known, item_known, names_set}
-use Rattle.channel_run.specs.FirstMeaning.{Value, Form, Operator, Integer, String, Locals, value_of, applied, signed_sum, shown, operand_form, sum_form, item_form, line_statement, print_line}
+use Rattle.trace_report.specs.TraceText.{print_line}
+use Rattle.channel_run.specs.FirstMeaning.{Value, Form, Operator, Integer, String, Locals, value_of, applied, signed_sum, shown, operand_form, sum_form, item_form, line_statement, printed}
 use Rattle.channel_run.specs.FirstLines.{Numbers, operand_number, sum_number, item_text, line_text, numbers_after, sum_steps, item_steps, line_steps, lines_text, lines_end}
 use Rattle.channel_run.proofs.FirstSteps.{form_steps, form_value, forms_steps, forms_values, statement_steps, statement_effect, Ready, body_text, body_ends}
 
@@ -112,7 +113,7 @@ print_comes locals known numbers matches items h =
     let values = items_values locals known numbers matches items h in
     record {
       after = locals;
-      effect = ap (option_map (λ values. (locals, print_line values))) values.1 ∙ ap (λ t. Some (locals, codes "1 print " ++ t ++ 10 ∷ [])) values.2;
+      effect = ap (option_map (λ values. (locals, printed values))) values.1 ∙ ap (λ t. Some (locals, print_line 1 t)) values.2;
       matches = matches;
     }
 

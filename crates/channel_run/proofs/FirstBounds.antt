@@ -1,10 +1,13 @@
 -- A run makes no more steps than its bound.
-use Rattle.std.proofs.Common.{◌≡◌, ℕ, zero, suc, ◌≤◌, Bool, true, false, List, [], ◌∷◌, fold, Option, Some, None, is_some, nat_lt, if◌then◌else◌, refl, arith}
+use Rattle.std.proofs.Common.{◌≡◌, ℕ, zero, suc, ◌≤◌, Bool, true, false, List, [], ◌∷◌, fold, Option, Some, None, is_some, nat_lt, if◌then◌else◌, refl, sym, subst, arith}
 use Rattle.std.specs.Option.{option_map_or}
 use Rattle.std.proofs.lemmas.Bool.Decides.{nat_tests}
 use Rattle.first_form.specs.declared.tree.FirstMain.{FirstMain}
+use Rattle.chan_values.specs.declared.event.Event.{Event}
 use Rattle.channel_run.specs.FirstMeaning.{Actor, actor_step}
-use Rattle.channel_run.specs.FirstText.{Run, opening, after_step, out_of_steps, turn, run_of}
+use Rattle.channel_run.specs.FirstText.{Run, opening, after_step, out_of_steps, turn, after_event, run_of}
+use Rattle.channel_run.specs.FirstLines.{asked_by}
+use Rattle.channel_run.proofs.FirstRuns.{event_turn}
 
 bounded_if : (bound : ℕ) (b : Bool) (first second : Run) → (b ≡ true → first.steps ≤ bound) → second.steps ≤ bound → (if b then first else second).steps ≤ bound
 bounded_if bound true first second f s = f refl
@@ -22,9 +25,10 @@ turn_bounded bound (suc n) run small =
     (λ next. bounded_if bound (nat_lt run.steps bound) (turn bound n (after_step run next)) (out_of_steps run) (λ under. turn_bounded bound n (after_step run next) (grind (arith, nat_tests))) small)
     small)
 
-turns_bounded : (bound : ℕ) (turns : List ℕ) (run : Run) → run.steps ≤ bound → (fold (λ run n. turn bound n run) run turns).steps ≤ bound
-turns_bounded bound [] run small = small
-turns_bounded bound (n ∷ turns) run small = turns_bounded bound turns (turn bound n run) (turn_bounded bound n run small)
+events_bounded : (bound : ℕ) (events : List Event) (run : Run) → run.steps ≤ bound → (fold (after_event bound) run events).steps ≤ bound
+events_bounded bound [] run small = small
+events_bounded bound (event ∷ events) run small =
+    events_bounded bound events (after_event bound run event) (subst (λ (r : Run). r.steps ≤ bound) (sym (event_turn bound run event)) (turn_bounded bound (asked_by event) run small))
 
-pub steps_bounded : (main : FirstMain) (turns : List ℕ) (bound : ℕ) → (run_of main turns bound).steps ≤ bound
-steps_bounded main turns bound = turns_bounded bound turns (opening main) (omega arith)
+pub steps_bounded : (main : FirstMain) (events : List Event) (bound : ℕ) → (run_of main events bound).steps ≤ bound
+steps_bounded main events bound = events_bounded bound events (opening main) (omega arith)

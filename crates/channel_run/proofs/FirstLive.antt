@@ -3,8 +3,12 @@ use Rattle.std.proofs.Common.{◌≡◌, ℕ, zero, suc, Bool, true, false, List
 use Rattle.std.specs.Option.{option_map_or}
 use Rattle.first_form.specs.declared.tree.FirstMain.{FirstMain}
 use Rattle.first_form.specs.FirstNames.{names_set}
-use Rattle.channel_run.specs.FirstMeaning.{Locals, Statement, Actor, Running, Ended, ended_line, actor_step}
-use Rattle.channel_run.specs.FirstText.{Run, opening, after_step, out_of_steps, turn, run_of, IsLive}
+use Rattle.chan_values.specs.declared.event.Event.{Event}
+use Rattle.trace_report.specs.TraceText.{ended_line}
+use Rattle.channel_run.specs.FirstMeaning.{Locals, Statement, Actor, Running, Ended, actor_step}
+use Rattle.channel_run.specs.FirstText.{Run, opening, after_step, out_of_steps, turn, after_event, run_of, IsLive}
+use Rattle.channel_run.specs.FirstLines.{asked_by}
+use Rattle.channel_run.proofs.FirstRuns.{event_turn}
 use Rattle.channel_run.proofs.FirstSteps.{Ready, body_step}
 use Rattle.channel_run.proofs.FirstBodies.{main_comes}
 
@@ -20,7 +24,7 @@ record HasStep (actor : Actor) : Type 0 where
   sound : IsSound next.0
 
 sound_step : (locals : Locals) (statements : List Statement) → Ready locals statements → HasStep (Running statements locals)
-sound_step locals [] ready = record { next = (Ended, ended_line); steps = refl; sound = tt }
+sound_step locals [] ready = record { next = (Ended, ended_line 1); steps = refl; sound = tt }
 sound_step locals (statement ∷ rest) ready =
     let step = body_step locals statement rest ready in
     record { next = (Running step.after step.locals_after, step.traced); steps = step.steps; sound = step.ready }
@@ -53,9 +57,10 @@ turn_sound bound (suc n) run sound =
     (λ next steps. sound_if (nat_lt run.steps bound) (turn bound n (after_step run next)) (out_of_steps run) (turn_sound bound n (after_step run next) (next_sound run.actor next sound steps)) sound)
     sound)
 
-turns_sound : (bound : ℕ) (turns : List ℕ) (run : Run) → IsSound run.actor → IsSound (fold (λ run n. turn bound n run) run turns).actor
-turns_sound bound [] run sound = sound
-turns_sound bound (n ∷ turns) run sound = turns_sound bound turns (turn bound n run) (turn_sound bound n run sound)
+events_sound : (bound : ℕ) (events : List Event) (run : Run) → IsSound run.actor → IsSound (fold (after_event bound) run events).actor
+events_sound bound [] run sound = sound
+events_sound bound (event ∷ events) run sound =
+    events_sound bound events (after_event bound run event) (subst (λ (r : Run). IsSound r.actor) (sym (event_turn bound run event)) (turn_sound bound (asked_by event) run sound))
 
-pub never_stuck : (main : FirstMain) (turns : List ℕ) (bound : ℕ) → IsTrue (names_set [] main.lines) → IsLive (run_of main turns bound).actor
-never_stuck main turns bound names = sound_live (run_of main turns bound).actor (turns_sound bound turns (opening main) (main_comes main.lines (λ _. pos 0) names).ready)
+pub never_stuck : (main : FirstMain) (events : List Event) (bound : ℕ) → IsTrue (names_set [] main.lines) → IsLive (run_of main events bound).actor
+never_stuck main events bound names = sound_live (run_of main events bound).actor (events_sound bound events (opening main) (main_comes main.lines (λ _. pos 0) names).ready)

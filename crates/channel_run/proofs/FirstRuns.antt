@@ -1,11 +1,15 @@
 -- A run turn by turn comes to what its body traces in as many steps as the turns and the bound allow.
-use Rattle.std.proofs.Common.{◌≡◌, ℕ, zero, suc, ◌+◌, ◌-◌, ◌≤◌, ◌<◌, min, sum, ◌⊎◌, inl, inr, Bool, true, false, List, [], ◌∷◌, ◌++◌, fold, Option, Some, None, is_some, nat_lt, if◌then◌else◌, refl, sym, ap, ◌∙◌, arith, append_assoc, append-nil}
+use Rattle.std.proofs.Common.{◌≡◌, ℕ, zero, suc, ◌+◌, ◌-◌, ◌≤◌, ◌<◌, min, sum, ◌⊎◌, inl, inr, Bool, true, false, List, [], ◌∷◌, ◌++◌, fold, Option, Some, None, is_some, nat_lt, eqb, map, if◌then◌else◌, refl, sym, ap, ◌∙◌, arith, append_assoc, append-nil}
 use Rattle.std.specs.Option.{option_map_or}
 use Rattle.std.proofs.lemmas.List.Sums.{sum_by-cons}
 use Rattle.std.proofs.lemmas.Bool.Decides.{nat_tests}
-use Rattle.channel_run.specs.FirstMeaning.{Locals, Statement, Actor, Running, Ended, ended_line, actor_step}
-use Rattle.channel_run.specs.FirstText.{Reason, Run, after_step, out_of_steps, turn}
-use Rattle.channel_run.specs.FirstLines.{reason_of}
+use Rattle.chan_values.specs.declared.end_reason.EndReason.{EndReason}
+use Rattle.chan_values.specs.declared.event.Event.{Event}
+use Rattle.chan_values.specs.declared.event.Event.TheVariants.{Key, Turn, Round, Expire}
+use Rattle.trace_report.specs.TraceText.{ended_line}
+use Rattle.channel_run.specs.FirstMeaning.{Locals, Statement, Actor, Running, Ended, actor_step}
+use Rattle.channel_run.specs.FirstText.{Run, after_step, out_of_steps, turn, after_event}
+use Rattle.channel_run.specs.FirstLines.{reason_of, asked_by}
 use Rattle.channel_run.proofs.FirstSteps.{Ready, body_text, body_ends, BodyStep, body_step, body_text_none, body_ends_none}
 
 -- ---- turns one after another
@@ -67,9 +71,26 @@ turns_sum bound [] run = refl
 turns_sum bound (n ∷ turns) run = turns_sum bound turns (turn bound n run) ∙ turn_add bound n (sum turns) run
     ∙ ap (λ k. turn bound k run) (sym (sum_by-cons (λ x. x) n turns))
 
+-- ---- events as turns
+
+turn_if : (b : Bool) (bound n : ℕ) (run : Run) → (if b then turn bound n run else run) ≡ turn bound (if b then n else 0) run
+turn_if true bound n run = refl
+turn_if false bound n run = refl
+
+pub event_turn : (bound : ℕ) (run : Run) (event : Event) → after_event bound run event ≡ turn bound (asked_by event) run
+event_turn bound run (Key key pressed) = refl
+event_turn bound run (Turn actor n) = turn_if (eqb actor 1) bound n run
+event_turn bound run (Round n) = refl
+event_turn bound run (Expire actor) = refl
+
+pub events_turns : (bound : ℕ) (events : List Event) (run : Run) → fold (after_event bound) run events ≡ fold (λ run n. turn bound n run) run (map asked_by events)
+events_turns bound [] run = refl
+events_turns bound (event ∷ events) run =
+    events_turns bound events (after_event bound run event) ∙ ap (λ r. fold (λ run n. turn bound n run) r (map asked_by events)) (event_turn bound run event)
+
 -- ---- a turn over a body
 
-pub record EndsWith (run : Run) (text : List ℕ) (reason : Option Reason) : Type 0 where
+pub record EndsWith (run : Run) (text : List ℕ) (reason : Option EndReason) : Type 0 where
   pub traced : run.trace ≡ text
   pub ended : run.end ≡ reason
 
@@ -109,9 +130,9 @@ last_step : (bound n : ℕ) (locals : Locals) (steps : ℕ) (trace : List ℕ) �
 last_step bound n locals steps trace under =
     let before : nat_lt steps bound ≡ true = grind (arith, nat_tests) in
     let some : nat_lt 0 (min (suc n) (bound - steps)) ≡ true = grind (arith, nat_tests) in
-    let made = turn_makes bound n (running [] locals steps trace) (Ended, ended_line) refl refl before ∙ turn_ended bound n (after_step (running [] locals steps trace) (Ended, ended_line)) refl in
+    let made = turn_makes bound n (running [] locals steps trace) (Ended, ended_line 1) refl refl before ∙ turn_ended bound n (after_step (running [] locals steps trace) (Ended, ended_line 1)) refl in
     record {
-      traced = ap (λ r. r.trace) made ∙ sym (ap (λ t. trace ++ (if t then ended_line else [])) some);
+      traced = ap (λ r. r.trace) made ∙ sym (ap (λ t. trace ++ (if t then ended_line 1 else [])) some);
       ended = ap (λ r. r.end) made ∙ sym (ap (λ t. reason_of t (nat_lt (bound - steps) (suc n))) some);
     }
 
@@ -136,7 +157,7 @@ body_turn : (bound n : ℕ) (statements : List Statement) (locals : Locals) (ste
 body_turn bound zero statements locals steps trace ready = no_turn bound statements locals steps trace
 body_turn bound (suc n) [] locals steps trace ready = elim (compared steps bound) [
   | inl under ↦ last_step bound n locals steps trace under
-  | inr over ↦ used_up bound n [] locals steps trace (Ended, ended_line) refl over
+  | inr over ↦ used_up bound n [] locals steps trace (Ended, ended_line 1) refl over
 ]
 body_turn bound (suc n) (statement ∷ rest) locals steps trace ready =
     let step = body_step locals statement rest ready in

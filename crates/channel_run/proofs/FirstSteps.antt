@@ -5,7 +5,8 @@ use Rattle.std.proofs.Math.Dec.{leb-suc-suc, leb-suc-zero}
 use Rattle.std.proofs.lemmas.Bool.{le-leb}
 use Rattle.std.specs.Option.{option_map, option_map_or}
 use Rattle.first_form.specs.declared.tree.Sign.{Sign}
-use Rattle.channel_run.specs.FirstMeaning.{Value, Form, Held, Number, Words, Name, Operator, Integer, String, Statement, Assign, Print, Locals, value_of, applied, form_step, forms_step, held_values, Running, print_line, ended_line, statement_step, actor_step}
+use Rattle.trace_report.specs.TraceText.{ended_line}
+use Rattle.channel_run.specs.FirstMeaning.{Value, Form, Held, Number, Words, Name, Operator, Integer, String, Statement, Assign, Print, Locals, value_of, applied, form_step, forms_step, held_values, Running, printed, statement_step, actor_step}
 
 -- ---- what a form comes to, and in how many steps
 
@@ -179,7 +180,7 @@ statement_steps (Print items) = forms_steps items + 1
 -- the locals after a statement, with what it traces
 abbrev pub statement_effect : Locals → Statement → Option (Locals × List ℕ)
 statement_effect locals (Assign name form) = option_map (λ v. ((name, v) ∷ locals, [])) (form_value locals form)
-statement_effect locals (Print items) = option_map (λ values. (locals, print_line values)) (forms_values locals items)
+statement_effect locals (Print items) = option_map (λ values. (locals, printed values)) (forms_values locals items)
 
 -- its last step
 pub record Finishes (locals : Locals) (statement : Statement) (rest : List Statement) (effect : Locals × List ℕ) : Type 0 where
@@ -204,18 +205,18 @@ assign_goes locals name form v rest go = record {
   less = omega (arith, go.less);
 }
 
-print_held : (locals : Locals) (items : List Form) (values : List Value) (rest : List Statement) → AllHeld items values → Finishes locals (Print items) rest (locals, print_line values)
+print_held : (locals : Locals) (items : List Form) (values : List Value) (rest : List Statement) → AllHeld items values → Finishes locals (Print items) rest (locals, printed values)
 print_held locals items values rest all = record {
-  steps = ap (λ o. option_map_or (λ values. Some (Running rest locals, print_line values)) o (option_map (λ after. (Running (Print after ∷ rest) locals, [])) (forms_step locals items))) all.held;
+  steps = ap (λ o. option_map_or (λ values. Some (Running rest locals, printed values)) o (option_map (λ after. (Running (Print after ∷ rest) locals, [])) (forms_step locals items))) all.held;
   last = omega (arith, all.none_left);
 }
 
-print_goes : (locals : Locals) (items : List Form) (values : List Value) (rest : List Statement) → FormsGo locals items values → Proceeds locals (Print items) rest (locals, print_line values)
+print_goes : (locals : Locals) (items : List Form) (values : List Value) (rest : List Statement) → FormsGo locals items values → Proceeds locals (Print items) rest (locals, printed values)
 print_goes locals items values rest go = record {
   after = Print go.after;
-  steps = ap (λ o. option_map_or (λ values. Some (Running rest locals, print_line values)) o (option_map (λ after. (Running (Print after ∷ rest) locals, [])) (forms_step locals items))) go.not_held
+  steps = ap (λ o. option_map_or (λ values. Some (Running rest locals, printed values)) o (option_map (λ after. (Running (Print after ∷ rest) locals, [])) (forms_step locals items))) go.not_held
       ∙ ap (option_map (λ after. (Running (Print after ∷ rest) locals, []))) go.steps;
-  effect_is = ap (option_map (λ values. (locals, print_line values))) go.all;
+  effect_is = ap (option_map (λ values. (locals, printed values))) go.all;
   less = omega (arith, go.less);
 }
 
@@ -228,7 +229,7 @@ statement_goes locals (Assign name form) rest effect h =
       | inr go ↦ inr (assign_goes locals name form found.0 rest go)
     ])
 statement_goes locals (Print items) rest effect h =
-    let found = map_some (λ values. (locals, print_line values)) (forms_values locals items) effect h in
+    let found = map_some (λ values. (locals, printed values)) (forms_values locals items) effect h in
     subst (λ e. Finishes locals (Print items) rest e ⊎ Proceeds locals (Print items) rest e) found.2
     (elim (forms_go locals items found.0 found.1) [
       | inl all ↦ inl (print_held locals items found.0 rest all)
@@ -244,7 +245,7 @@ Ready locals (statement ∷ rest) = (effect : Locals × List ℕ) × (statement_
 
 -- what a body traces in k steps
 abbrev pub body_text : ℕ → Locals → List Statement → List ℕ
-body_text k locals [] = if nat_lt 0 k then ended_line else []
+body_text k locals [] = if nat_lt 0 k then ended_line 1 else []
 body_text k locals (statement ∷ rest) =
     option_map_or
     (λ effect. if nat_le (statement_steps statement) k then effect.1 ++ body_text (k - statement_steps statement) effect.0 rest else [])

@@ -1,12 +1,16 @@
 -- What one read after another takes of the input.
-use Rattle.std.proofs.Common.{◌≡◌, ℕ, Bool, true, false, ◌+◌, ◌<◌, ◌⊎◌, inl, inr, if◌then◌else◌, List, [], ◌∷◌, ◌++◌, length, take, Option, None, Some, refl, sym, ap, ◌∙◌, subst, arith, append-nil}
+use Rattle.std.proofs.Common.{◌≡◌, ℕ, Bool, true, false, ◌+◌, ◌<◌, ◌⊎◌, inl, inr, if◌then◌else◌, List, [], ◌∷◌, ◌++◌, length, take, Option, None, Some, Result, refl, sym, ap, ◌∙◌, subst, arith, append-nil}
 use Rattle.std.proofs.KnownBytes.{Consumes-trans, Consumes-nil}
 use Rattle.std.proofs.lemmas.List.Sums.{fold-append}
 use Rattle.std.proofs.lemmas.Grind.{common_steps}
 use Rattle.std.specs.Io.KnownBytes.{Consumes, IsAtEnd}
 use Rattle.channel_run.specs.Input.{ReadsAll, ReadsLongLine}
-use Rattle.channel_run.specs.Script.{is_line_feed, is_short, with_byte, lines_of, turn_of, turn_first, turns_in, turns_of, unended_after, unended_length}
+use Rattle.chan_values.specs.declared.event.Event.{Event}
+use Rattle.channel_run.specs.declared.script.Script.{Script}
+use Rattle.channel_run.specs.Script.{is_line_feed, with_byte, lines_of, IsLineOf, IsBadLine, LinesSay, IsScriptOf, unended_after, unended_length}
 use Rattle.std.specs.Option.{ForSome}
+use Rattle.outside.specs.Causes.{CountsFault}
+use Rattle.outside.specs.declared.faults.FilesFault.{FilesFault}
 
 pub consumes_none : (a : Option (List ℕ)) → Consumes a a []
 consumes_none = Consumes-nil
@@ -19,64 +23,92 @@ pub reads_all : (a b c : Option (List ℕ)) (bytes piece : List ℕ) → Consume
 reads_all a b c bytes piece before none end =
     record { consumed = subst (Consumes a c) (append-nil bytes) (consumes_more a b c bytes [] before none); end = end }
 
-pub reads_long : (a b : Option (List ℕ)) (bytes : List ℕ) (unended : ℕ) → Consumes a b bytes → unended ≡ unended_length bytes → 16777216 < unended → ReadsLongLine a b
-reads_long a b bytes unended before is long = record { taken = bytes; consumed = before; long = subst (λ n. 16777216 < n) is long }
+pub reads_long : (a b : Option (List ℕ)) (bytes : List ℕ) (unended : ℕ) → Consumes a b bytes → unended ≡ unended_length bytes → 16777216 < unended → ReadsLongLine a b bytes
+reads_long a b bytes unended before is long = record { consumed = before; long = subst (λ n. 16777216 < n) is long }
 
 pub open_more : (bytes piece : List ℕ) (unended : ℕ) → unended ≡ unended_length bytes → unended_after unended piece ≡ unended_length (bytes ++ piece)
 open_more bytes piece unended is = ap (λ n. unended_after n piece) is ∙ sym (fold-append _ 0 bytes piece)
 
--- one of these lines is too long, where this many more bytes stand before the first
-abbrev HasLong : ℕ → List (List ℕ) → Type 0
-HasLong n [] = 16777216 < n
-HasLong n (line ∷ lines) = (16777216 < n + length line) ⊎ HasLong 0 lines
+-- the lines of a front and of the whole, where this many more bytes stand before the first, and a line that the front doesn't end
+-- is too long
+abbrev LongIn : ℕ → List (List ℕ) → List (List ℕ) → Type 0
+LongIn n [] all = 16777216 < n
+LongIn n (line ∷ lines) [] = ⊥
+LongIn n (line ∷ lines) (other ∷ all) = ((line ≡ other) × LongIn 0 lines all) ⊎ ((16777216 < n + length line) × (16777216 < n + length other))
 
-long_first : (n : ℕ) (lines : List (List ℕ)) → 16777216 < n → HasLong n lines
-long_first n [] long = long
-long_first n (line ∷ lines) long = inl (omega arith)
+long_byte : (n b : ℕ) (lines all : List (List ℕ)) → LongIn (n + 1) lines all → LongIn n (with_byte b lines) (with_byte b all)
+long_byte n b [] [] long = inr (omega arith, omega arith)
+long_byte n b [] (other ∷ all) long = inr (omega arith, omega arith)
+long_byte n b (line ∷ lines) [] long = absurd long
+long_byte n b (line ∷ lines) (other ∷ all) (inl same) = inl (ap (λ l. b ∷ l) same.0, same.1)
+long_byte n b (line ∷ lines) (other ∷ all) (inr long) = inr (omega (arith, long.0), omega (arith, long.1))
 
-long_byte : (n b : ℕ) (lines : List (List ℕ)) → HasLong (n + 1) lines → HasLong n (with_byte b lines)
-long_byte n b [] long = inl (omega arith)
-long_byte n b (line ∷ lines) (inl long) = inl (omega arith)
-long_byte n b (line ∷ lines) (inr long) = inr long
+long_step : (t : Bool) (n b : ℕ) (bytes : List ℕ) (lines all : List (List ℕ)) → (16777216 < unended_after 0 bytes → LongIn 0 lines all)
+    → (16777216 < unended_after (n + 1) bytes → LongIn (n + 1) lines all) → 16777216 < unended_after (if t then 0 else n + 1) bytes
+    → LongIn n (if t then [] ∷ lines else with_byte b lines) (if t then [] ∷ all else with_byte b all)
+long_step true n b bytes lines all ended going long = inl (refl, ended long)
+long_step false n b bytes lines all ended going long = long_byte n b lines all (going long)
 
-long_step : (t : Bool) (n b : ℕ) (bytes : List ℕ) (lines : List (List ℕ)) → (16777216 < unended_after 0 bytes → HasLong 0 lines)
-    → (16777216 < unended_after (n + 1) bytes → HasLong (n + 1) lines) → 16777216 < unended_after (if t then 0 else n + 1) bytes
-    → HasLong n (if t then [] ∷ lines else with_byte b lines)
-long_step true n b bytes lines ended going long = inr (ended long)
-long_step false n b bytes lines ended going long = long_byte n b lines (going long)
-
-long_lines : (n : ℕ) (taken rest : List ℕ) → 16777216 < unended_after n taken → HasLong n (lines_of (taken ++ rest))
-long_lines n [] rest long = long_first n (lines_of rest) long
+long_lines : (n : ℕ) (taken rest : List ℕ) → 16777216 < unended_after n taken → LongIn n (lines_of taken) (lines_of (taken ++ rest))
+long_lines n [] rest long = long
 long_lines n (b ∷ taken) rest long =
-    long_step (is_line_feed b) n b taken (lines_of (taken ++ rest)) (long_lines 0 taken rest) (long_lines (n + 1) taken rest) long
+    long_step (is_line_feed b) n b taken (lines_of taken) (lines_of (taken ++ rest)) (long_lines 0 taken rest) (long_lines (n + 1) taken rest) long
 
-no_turn : (line : List ℕ) → 16777216 < length line → turn_of line ≡ None
-no_turn line long =
-    let not_short : is_short line ≡ false = grind (arith, common_steps) in
-    rw not_short refl
+long_bad : (line : List ℕ) → 16777216 < 0 + length line → IsBadLine line
+long_bad line long event is = omega (arith, is.short)
 
-no_more : (first : Option ℕ) → turn_first first None ≡ None
-no_more None = refl
-no_more (Some n) = refl
+-- both say the same
+front_says : (lines all : List (List ℕ)) → LongIn 0 lines all → (events : List Event) (bad : Bool) → LinesSay lines events bad → LinesSay all events bad
+front_says [] all long events bad h = absurd (omega arith)
+front_says (line ∷ lines) [] long events bad h = absurd long
+front_says (line ∷ lines) (other ∷ all) (inl same) [] bad h = (λ event is. h.0 event (subst (IsLineOf event) (sym same.0) is), h.1)
+front_says (line ∷ lines) (other ∷ all) (inl same) (event ∷ events) bad h = (subst (IsLineOf event) same.0 h.0, front_says lines all same.1 events bad h.1)
+front_says (line ∷ lines) (other ∷ all) (inr long) [] bad h = (long_bad other long.1, h.1)
+front_says (line ∷ lines) (other ∷ all) (inr long) (event ∷ events) bad h = absurd (long_bad line long.0 event h.0)
 
-long_turns : (lines : List (List ℕ)) → HasLong 0 lines → turns_in lines ≡ None
-long_turns [] long = absurd (omega arith)
-long_turns (line ∷ lines) (inl long) = ap (λ first. turn_first first (turns_in lines)) (no_turn line (omega arith))
-long_turns (line ∷ lines) (inr long) = ap (turn_first (turn_of line)) (long_turns lines long) ∙ no_more (turn_of line)
+whole_says : (lines all : List (List ℕ)) → LongIn 0 lines all → (events : List Event) (bad : Bool) → LinesSay all events bad → LinesSay lines events bad
+whole_says [] all long events bad h = absurd (omega arith)
+whole_says (line ∷ lines) [] long events bad h = absurd long
+whole_says (line ∷ lines) (other ∷ all) (inl same) [] bad h = (λ event is. h.0 event (subst (IsLineOf event) same.0 is), h.1)
+whole_says (line ∷ lines) (other ∷ all) (inl same) (event ∷ events) bad h = (subst (IsLineOf event) (sym same.0) h.0, whole_says lines all same.1 events bad h.1)
+whole_says (line ∷ lines) (other ∷ all) (inr long) [] bad h = (long_bad line long.0, h.1)
+whole_says (line ∷ lines) (other ∷ all) (inr long) (event ∷ events) bad h = absurd (long_bad other long.1 event h.0)
+
+-- the long line is a bad one, if none before it is
+front_bad : (lines all : List (List ℕ)) → LongIn 0 lines all → (events : List Event) (bad : Bool) → LinesSay lines events bad → bad ≡ true
+front_bad [] all long events bad h = absurd (omega arith)
+front_bad (line ∷ lines) [] long events bad h = absurd long
+front_bad (line ∷ lines) (other ∷ all) (inl same) [] bad h = h.1
+front_bad (line ∷ lines) (other ∷ all) (inl same) (event ∷ events) bad h = front_bad lines all same.1 events bad h.1
+front_bad (line ∷ lines) (other ∷ all) (inr long) [] bad h = h.1
+front_bad (line ∷ lines) (other ∷ all) (inr long) (event ∷ events) bad h = absurd (long_bad line long.0 event h.0)
 
 all_told : (all bytes : List ℕ) (new : Option (List ℕ)) → Consumes (Some all) new bytes → IsAtEnd new → all ≡ bytes
 all_told all bytes None taken end = absurd taken
 all_told all bytes (Some left) taken end = taken ∙ ap (λ l. bytes ++ l) end ∙ append-nil bytes
 
-pub turns_told : (old new : Option (List ℕ)) (bytes : List ℕ) (turns : Option (List ℕ)) → ReadsAll old new bytes → turns ≡ turns_of bytes
-    → ForSome old (λ script. turns ≡ turns_of script)
-turns_told old new bytes turns read is script told =
-    is ∙ ap turns_of (sym (all_told script bytes new (subst (λ o. Consumes o new bytes) told read.consumed) read.end))
+pub script_told : (old new : Option (List ℕ)) (bytes : List ℕ) (script : Script) → ReadsAll old new bytes → IsScriptOf bytes script → ForSome old (λ all. IsScriptOf all script)
+script_told old new bytes script read is all told =
+    subst (λ b. IsScriptOf b script) (sym (all_told all bytes new (subst (λ o. Consumes o new bytes) told read.consumed) read.end)) is
 
-front_long : (all taken : List ℕ) (new : Option (List ℕ)) → Consumes (Some all) new taken → 16777216 < unended_length taken → turns_of all ≡ None
-front_long all taken None before long = absurd before
-front_long all taken (Some left) before long = ap turns_of before ∙ long_turns (lines_of (taken ++ left)) (long_lines 0 taken left long)
+long_script : (taken rest : List ℕ) (script : Script) → 16777216 < unended_length taken → IsScriptOf taken script → IsScriptOf (taken ++ rest) script
+long_script taken rest script long is =
+    let lines = long_lines 0 taken rest long in
+    record {
+      says = front_says (lines_of taken) (lines_of (taken ++ rest)) lines script.events script.has_bad_line is.says;
+      only = λ other h. is.only other (whole_says (lines_of taken) (lines_of (taken ++ rest)) lines other.events other.has_bad_line h);
+    }
 
-pub no_turns_told : (old new : Option (List ℕ)) → ReadsLongLine old new → ForSome old (λ script. None ≡ turns_of script)
-no_turns_told old new read script told =
-    sym (front_long script read.taken new (subst (λ o. Consumes o new read.taken) told read.consumed) read.long)
+long_front : (all taken : List ℕ) (new : Option (List ℕ)) (script : Script) → Consumes (Some all) new taken → 16777216 < unended_length taken → IsScriptOf taken script → IsScriptOf all script
+long_front all taken None script before long is = absurd before
+long_front all taken (Some left) script before long is = subst (λ b. IsScriptOf b script) (sym before) (long_script taken left script long is)
+
+pub long_script_told : (old new : Option (List ℕ)) (bytes : List ℕ) (script : Script) → ReadsLongLine old new bytes → IsScriptOf bytes script → ForSome old (λ all. IsScriptOf all script)
+long_script_told old new bytes script read is all told = long_front all bytes new script (subst (λ o. Consumes o new bytes) told read.consumed) read.long is
+
+pub long_is_bad : (old new : Option (List ℕ)) (bytes : List ℕ) (script : Script) → ReadsLongLine old new bytes → IsScriptOf bytes script → script.has_bad_line ≡ true
+long_is_bad old new bytes script read is = front_bad (lines_of bytes) (lines_of (bytes ++ [])) (long_lines 0 bytes [] read.long) script.events script.has_bad_line is.says
+
+-- what no fault comes from, after a read
+pub cause_after : {T : Type 0} (r : Result T FilesFault) (before now : ℕ) → now ≡ before → ((faults : ℕ) → CountsFault faults faults r) → CountsFault before now r
+cause_after r before now same cause = subst (λ n. CountsFault n now r) same (cause now)

@@ -1,13 +1,11 @@
 -- One line of a script after another.
-use Rattle.std.proofs.Common.{◌≡◌, ℕ, suc, Bool, true, false, cond, ◌+◌, ◌-◌, ◌<◌, ◌≤◌, nat_lt, List, [], ◌∷◌, ◌++◌, length, take, drop, Option, None, Some, option_map, if◌then◌else◌, not, refl, sym, ap, ◌∙◌, arith, append_assoc, append-nil, length-drop}
+use Rattle.std.proofs.Common.{◌≡◌, ℕ, suc, Bool, true, false, cond, ◌+◌, ◌-◌, ◌<◌, ◌≤◌, nat_lt, List, [], ◌∷◌, ◌++◌, length, take, drop, Option, None, Some, if◌then◌else◌, not, refl, sym, ap, ◌∙◌, arith, append_assoc, append-nil, length-drop, subst}
 use Rattle.std.specs.List.{before_first, after_first, position_or_len, position}
 use Rattle.std.proofs.lemmas.Grind.{common_steps}
 use Rattle.std.proofs.lemmas.List.{take_all, nil_from_length}
-use Rattle.channel_run.specs.Script.{is_line_feed, with_byte, lines_of, turn_of, turn_first, turns_in, turns_of}
-
--- these turns, and then the others
-abbrev pub after_turns : List ℕ → Option (List ℕ) → Option (List ℕ)
-after_turns turns others = option_map (λ ns. turns ++ ns) others
+use Rattle.chan_values.specs.declared.event.Event.{Event}
+use Rattle.channel_run.specs.Answer.{is_key}
+use Rattle.channel_run.specs.Script.{is_line_feed, with_byte, lines_of, IsLineOf, IsBadLine, LinesSay, IsScriptOf}
 
 take_one : (b : ℕ) (bytes : List ℕ) (n : ℕ) → take (1 + n) (b ∷ bytes) ≡ b ∷ take n bytes
 take_one b bytes n = let e : 1 + n ≡ suc n = omega arith in ap (λ k. take k (b ∷ bytes)) e
@@ -43,6 +41,13 @@ found_at false n at e = cc
 not_found : (n all : ℕ) → (if nat_lt n all then Some n else None) ≡ None → all ≤ n
 not_found n all e = grind (arith, common_steps)
 
+-- the events before the first key
+pub front_found : (events : List Event) (at : ℕ) → position is_key events ≡ Some at → take at events ≡ before_first is_key events
+front_found events at e = ap (λ n. take n events) (sym (found_at _ _ at e))
+
+pub front_missing : (events : List Event) → position is_key events ≡ None → events ≡ before_first is_key events
+front_missing events e = sym (take_all _ events (not_found _ _ e))
+
 pub line_found : (script : List ℕ) (at : ℕ) → position is_line_feed script ≡ Some at → take at script ≡ before_first is_line_feed script
 line_found script at e = ap (λ n. take n script) (sym (found_at _ _ at e))
 
@@ -63,36 +68,73 @@ lines_last script e =
 pub lines_shorter : (script : List ℕ) → 0 < length script → length (after_first is_line_feed script) < length script
 lines_shorter script h = omega (arith, length-drop (position_or_len is_line_feed script + 1) script)
 
-after_none : (others : Option (List ℕ)) → after_turns [] others ≡ others
-after_none None = refl
-after_none (Some ns) = refl
+-- lines say these events, and nothing else
+pub record Settles (lines : List (List ℕ)) (events : List Event) (bad : Bool) : Type 0 where
+  pub says : LinesSay lines events bad
+  pub only : (others : List Event) (b : Bool) → LinesSay lines others b → (others ≡ events) × (b ≡ bad)
 
-after_more : (turns : List ℕ) (n : ℕ) (others : Option (List ℕ)) → after_turns turns (turn_first (Some n) others) ≡ after_turns (turns ++ n ∷ []) others
-after_more turns n None = refl
-after_more turns n (Some ns) = ap Some (sym (append_assoc turns (n ∷ []) ns))
+settles_none : Settles [] [] false
+settles_none = record { says = refl; only = only }
+  where
+    only : (others : List Event) (b : Bool) → LinesSay [] others b → (others ≡ []) × (b ≡ false)
+    only [] b h = (refl, h)
+    only (other ∷ others) b h = absurd h
 
-first_turn : (rest line lines : List ℕ) → 0 < length rest → line ≡ before_first is_line_feed rest → lines ≡ after_first is_line_feed rest
-    → turns_of rest ≡ turn_first (turn_of line) (turns_of lines)
-first_turn rest line lines h is more =
-    ap turns_in (lines-first rest h) ∙ ap (λ l. turn_first (turn_of l) (turns_of (after_first is_line_feed rest))) (sym is)
-    ∙ ap (λ ls. turn_first (turn_of line) (turns_of ls)) (sym more)
+settles_bad : (line : List ℕ) (lines : List (List ℕ)) → IsBadLine line → Settles (line ∷ lines) [] true
+settles_bad line lines is_bad = record { says = (is_bad, refl); only = only }
+  where
+    only : (others : List Event) (b : Bool) → LinesSay (line ∷ lines) others b → (others ≡ []) × (b ≡ true)
+    only [] b h = (refl, h.1)
+    only (other ∷ others) b h = absurd (is_bad other h.0)
 
-pub turns_none : (turns : List ℕ) (script : List ℕ) → turns ≡ [] → after_turns turns (turns_of script) ≡ turns_of script
-turns_none turns script none = ap (λ t. after_turns t (turns_of script)) none ∙ after_none (turns_of script)
+settles_more : (line : List ℕ) (lines : List (List ℕ)) (event : Event) (events : List Event) (bad : Bool) → IsLineOf event line → ((other : Event) → IsLineOf other line → other ≡ event)
+    → Settles lines events bad → Settles (line ∷ lines) (event ∷ events) bad
+settles_more line lines event events bad is unique rest = record { says = (is, rest.says); only = only }
+  where
+    only : (others : List Event) (b : Bool) → LinesSay (line ∷ lines) others b → (others ≡ event ∷ events) × (b ≡ bad)
+    only [] b h = absurd (h.0 event is)
+    only (other ∷ others) b h =
+        let same = rest.only others b h.1 in
+        (ap (λ e. e ∷ others) (unique other h.0) ∙ ap (λ es. event ∷ es) same.0, same.1)
 
-pub turns_bad : (turns rest script line lines : List ℕ) → after_turns turns (turns_of rest) ≡ turns_of script → 0 < length rest
-    → line ≡ before_first is_line_feed rest → lines ≡ after_first is_line_feed rest → turn_of line ≡ None
-    → ◌≡◌ {A = Option (List ℕ)} None (turns_of script)
-turns_bad turns rest script line lines e h is more bad =
-    sym (ap (after_turns turns) (first_turn rest line lines h is more ∙ ap (λ o. turn_first o (turns_of lines)) bad)) ∙ e
+-- what the rest of a script settles, settles the script, after these events
+abbrev pub Leads : List Event → List ℕ → List ℕ → Type 0
+Leads done rest all = (events : List Event) (bad : Bool) → Settles (lines_of rest) events bad → Settles (lines_of all) (done ++ events) bad
 
-pub turns_more : (turns rest script line lines : List ℕ) (n : ℕ) → after_turns turns (turns_of rest) ≡ turns_of script → 0 < length rest
-    → line ≡ before_first is_line_feed rest → lines ≡ after_first is_line_feed rest → turn_of line ≡ Some n
-    → after_turns (turns ++ n ∷ []) (turns_of lines) ≡ turns_of script
-turns_more turns rest script line lines n e h is more good =
-    sym (after_more turns n (turns_of lines))
-    ∙ sym (ap (after_turns turns) (first_turn rest line lines h is more ∙ ap (λ o. turn_first o (turns_of lines)) good)) ∙ e
+pub leads_none : (done : List Event) (all : List ℕ) → done ≡ [] → Leads done all all
+leads_none done all none = λ events bad settles. subst (λ es. Settles (lines_of all) (es ++ events) bad) (sym none) settles
 
-pub turns_end : (turns rest script : List ℕ) → after_turns turns (turns_of rest) ≡ turns_of script → length rest ≡ 0 → Some turns ≡ turns_of script
-turns_end turns rest script e none =
-    ap Some (sym (append-nil turns)) ∙ ap (λ r. after_turns turns (turns_of r)) (sym (nil_from_length rest none)) ∙ e
+first_line : (rest line lines : List ℕ) → 0 < length rest → line ≡ before_first is_line_feed rest → lines ≡ after_first is_line_feed rest → lines_of rest ≡ line ∷ lines_of lines
+first_line rest line lines some is more =
+    lines-first rest some ∙ ap (λ l. l ∷ lines_of (after_first is_line_feed rest)) (sym is) ∙ ap (λ ls. line ∷ lines_of ls) (sym more)
+
+pub leads_more : (done : List Event) (rest all line lines : List ℕ) (event : Event) → Leads done rest all → 0 < length rest → line ≡ before_first is_line_feed rest → lines ≡ after_first is_line_feed rest
+    → IsLineOf event line → ((other : Event) → IsLineOf other line → Some event ≡ Some other) → Leads (done ++ event ∷ []) lines all
+leads_more done rest all line lines event before some is more says found = λ events bad settles.
+    let here = settles_more line (lines_of lines) event events bad says (λ other h. let e : other ≡ event = cc (found other h) in e) settles in
+    subst (λ es. Settles (lines_of all) es bad) (sym (append_assoc done (event ∷ []) events))
+    (before (event ∷ events) bad (subst (λ ls. Settles ls (event ∷ events) bad) (sym (first_line rest line lines some is more)) here))
+
+settled : (bytes : List ℕ) (events : List Event) (bad : Bool) → Settles (lines_of bytes) events bad → IsScriptOf bytes (record { events = events; has_bad_line = bad })
+settled bytes events bad settles = record {
+  says = settles.says;
+  only = λ other h.
+      let same = settles.only other.events other.has_bad_line h in
+      ap (λ es. record { events = es; has_bad_line = other.has_bad_line }) same.0 ∙ ap (λ b. record { events = events; has_bad_line = b }) same.1;
+}
+
+-- a bad line ends what the script says
+pub ends_bad : (done : List Event) (rest all line lines : List ℕ) → Leads done rest all → 0 < length rest → line ≡ before_first is_line_feed rest → lines ≡ after_first is_line_feed rest
+    → ((other : Event) → IsLineOf other line → ◌≡◌ {A = Option Event} None (Some other)) → IsScriptOf all (record { events = done; has_bad_line = true })
+ends_bad done rest all line lines before some is more found =
+    let here = settles_bad line (lines_of lines) (λ other h. let e : None ≡ Some other = found other h in absurd (cc)) in
+    settled all done true
+    (subst (λ es. Settles (lines_of all) es true) (append-nil done)
+    (before [] true (subst (λ ls. Settles ls [] true) (sym (first_line rest line lines some is more)) here)))
+
+-- the end of the script
+pub ends_whole : (done : List Event) (rest all : List ℕ) → Leads done rest all → length rest ≡ 0 → IsScriptOf all (record { events = done; has_bad_line = false })
+ends_whole done rest all before none =
+    settled all done false
+    (subst (λ es. Settles (lines_of all) es false) (append-nil done)
+    (before [] false (subst (λ r. Settles (lines_of r) [] false) (sym (nil_from_length rest none)) settles_none)))

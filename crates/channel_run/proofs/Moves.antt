@@ -61,3 +61,7 @@ prefix_either (Err e) a b bytes whole front = front
 pub whole_after : {T E : Type 0} (r : Result T E) (a b c : Option (List ℕ)) (xs ys : List ℕ) → Appends a b xs → OnOk r (Appends b c ys) → OnOk r (Appends a c (xs ++ ys))
 whole_after (Ok x) a b c xs ys before more = appends_two a b c xs ys before more
 whole_after (Err e) a b c xs ys before more = tt
+
+pub front_after : {T E : Type 0} (r : Result T E) (a b c : Option (List ℕ)) (xs ys : List ℕ) → Appends a b xs → OnErr r (AppendsPrefix b c ys) → OnErr r (AppendsPrefix a c (xs ++ ys))
+front_after (Ok x) a b c xs ys before more = tt
+front_after (Err e) a b c xs ys before more = prefix_after a b c xs ys before more

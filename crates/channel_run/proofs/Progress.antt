@@ -3,7 +3,7 @@ use Rattle.std.proofs.Common.{◌≡◌, ℕ, ◌+◌, ◌-◌, ◌≤◌, ◌<�
 use Rattle.std.proofs.lemmas.List.{drop_all}
 use Rattle.std.specs.Io.KnownBytes.{Appends}
 use Rattle.first_form.specs.declared.tree.Line.{Line}
-use Rattle.channel_run.specs.FirstMeaning.{ended_line}
+use Rattle.trace_report.specs.TraceText.{ended_line}
 use Rattle.channel_run.specs.FirstLines.{Numbers, line_text, numbers_after, line_steps, lines_text, lines_end}
 use Rattle.channel_run.specs.Output.{AppendsPrefix}
 use Rattle.channel_run.proofs.Moves.{appends_two, prefix_more, prefix_after}
@@ -66,24 +66,24 @@ pub progress_end : (a b : Option (List ℕ)) (steps left : ℕ) (numbers : Numbe
 progress_end a b steps left numbers lines i before all = subst (λ rest. Progress a b steps left numbers lines rest) (drop_all i lines all) before
 
 -- the body's end was written, in whole or in part
-pub progress_ended : (a b c : Option (List ℕ)) (steps left : ℕ) (numbers : Numbers) (lines : List Line) → Progress a b steps left numbers lines [] → 0 < left → Appends b c ended_line
+pub progress_ended : (a b c : Option (List ℕ)) (steps left : ℕ) (numbers : Numbers) (lines : List Line) → Progress a b steps left numbers lines [] → 0 < left → Appends b c (ended_line 1)
     → Appends a c (lines_text steps (λ _. pos 0) lines) × (lines_end steps lines ≡ true)
 progress_ended a b c steps left numbers lines before some last =
     let t : nat_lt 0 left ≡ true = grind (arith, nat_tests) in
-    (subst (Appends a c) (sym (before.text ∙ ap (λ b. before.done ++ (if b then ended_line else [])) t)) (appends_two a b c _ _ before.written last), before.ends ∙ t)
+    (subst (Appends a c) (sym (before.text ∙ ap (λ b. before.done ++ (if b then ended_line 1 else [])) t)) (appends_two a b c _ _ before.written last), before.ends ∙ t)
 
-pub progress_ended_front : (a b c : Option (List ℕ)) (steps left : ℕ) (numbers : Numbers) (lines : List Line) (bytes : List ℕ) → Progress a b steps left numbers lines [] → 0 < left → bytes ≡ ended_line → AppendsPrefix b c bytes
+pub progress_ended_front : (a b c : Option (List ℕ)) (steps left : ℕ) (numbers : Numbers) (lines : List Line) (bytes : List ℕ) → Progress a b steps left numbers lines [] → 0 < left → bytes ≡ ended_line 1 → AppendsPrefix b c bytes
     → AppendsPrefix a c (lines_text steps (λ _. pos 0) lines)
 progress_ended_front a b c steps left numbers lines bytes before some is last =
     let t : nat_lt 0 left ≡ true = grind (arith, nat_tests) in
-    subst (AppendsPrefix a c) (sym (before.text ∙ ap (λ b. before.done ++ (if b then ended_line else [])) t)) (prefix_after a b c before.done _ before.written (subst (AppendsPrefix b c) is last))
+    subst (AppendsPrefix a c) (sym (before.text ∙ ap (λ b. before.done ++ (if b then ended_line 1 else [])) t)) (prefix_after a b c before.done _ before.written (subst (AppendsPrefix b c) is last))
 
 -- no step is left for the body's end
 pub progress_unended : (a b : Option (List ℕ)) (steps left : ℕ) (numbers : Numbers) (lines : List Line) → Progress a b steps left numbers lines [] → left ≡ 0
     → Appends a b (lines_text steps (λ _. pos 0) lines) × (lines_end steps lines ≡ false)
 progress_unended a b steps left numbers lines before none =
     let t : nat_lt 0 left ≡ false = grind (arith, nat_tests) in
-    (subst (Appends a b) (sym (before.text ∙ ap (λ b. before.done ++ (if b then ended_line else [])) t ∙ append-nil before.done)) before.written, before.ends ∙ t)
+    (subst (Appends a b) (sym (before.text ∙ ap (λ b. before.done ++ (if b then ended_line 1 else [])) t ∙ append-nil before.done)) before.written, before.ends ∙ t)
 
 pub on_err_any : {T E : Type 0} (r : Result T E) (P : Type 0) → P → OnErr r P
 on_err_any (Ok x) P h = tt

@@ -1,5 +1,5 @@
 -- What the lines of one Main trace, line by line, where so many steps may be made.
-use Rattle.std.specs.Prelude.{ℕ, ◌+◌, ◌-◌, ◌*◌, ℤ, Bool, ◌&&◌, List, [], ◌∷◌, ◌++◌, length, fold, flat_map, codes, nat_le, nat_lt, if◌then◌else◌, sum_by, Option, Some, None}
+use Rattle.std.specs.Prelude.{ℕ, ◌+◌, ◌-◌, ◌*◌, ℤ, Bool, ◌&&◌, ◌==◌, List, [], ◌∷◌, ◌++◌, length, fold, flat_map, codes, nat_le, nat_lt, if◌then◌else◌, sum_by, Option, Some, None}
 use Rattle.std.specs.Str.{bytes_eq}
 use Rattle.first_form.specs.declared.tree.Line.{Line}
 use Rattle.first_form.specs.declared.tree.Line.TheVariants as line
@@ -8,8 +8,12 @@ use Rattle.first_form.specs.declared.tree.PrintItem.TheVariants as item
 use Rattle.first_form.specs.declared.tree.Operand.{Operand}
 use Rattle.first_form.specs.declared.tree.Operand.TheVariants as operand
 use Rattle.first_form.specs.declared.tree.Sum.{Sum}
-use Rattle.channel_run.specs.FirstMeaning.{Integer, signed_sum, shown, ended_line}
-use Rattle.channel_run.specs.FirstText.{Reason, MainReturned, StepsUsedUp}
+use Rattle.chan_values.specs.declared.end_reason.EndReason.{EndReason}
+use Rattle.chan_values.specs.declared.end_reason.EndReason.TheVariants as reason
+use Rattle.chan_values.specs.declared.event.Event.{Event}
+use Rattle.chan_values.specs.declared.event.Event.TheVariants.{Key, Turn, Round, Expire}
+use Rattle.trace_report.specs.TraceText.{print_line, ended_line}
+use Rattle.channel_run.specs.FirstMeaning.{Integer, signed_sum, shown}
 
 -- the number of each local
 abbrev pub Numbers : Type 0
@@ -27,12 +31,12 @@ abbrev pub item_text : Numbers → PrintItem → List ℕ
 item_text numbers (item.Words words) = words
 item_text numbers (item.Sum sum) = shown (Integer (sum_number numbers sum))
 
-abbrev pub print_text : Numbers → List PrintItem → List ℕ
-print_text numbers items = codes "1 print " ++ flat_map (item_text numbers) items ++ 10 ∷ []
+abbrev pub items_text : Numbers → List PrintItem → List ℕ
+items_text numbers items = flat_map (item_text numbers) items
 
 abbrev pub line_text : Numbers → Line → List ℕ
 line_text numbers (line.Assign name sum) = []
-line_text numbers (line.Print items) = print_text numbers items
+line_text numbers (line.Print items) = print_line 1 (items_text numbers items)
 
 abbrev pub set_number : Numbers → List ℕ → ℤ → Numbers
 set_number numbers name number other = if bytes_eq name other then number else numbers other
@@ -55,7 +59,7 @@ line_steps (line.Print items) = sum_by item_steps items + 1
 
 -- what is traced where this many steps may be made
 abbrev pub lines_text : ℕ → Numbers → List Line → List ℕ
-lines_text left numbers [] = if nat_lt 0 left then ended_line else []
+lines_text left numbers [] = if nat_lt 0 left then ended_line 1 else []
 lines_text left numbers (line ∷ lines) =
     if nat_le (line_steps line) left
     then line_text numbers line ++ lines_text (left - line_steps line) (numbers_after numbers line) lines
@@ -67,5 +71,12 @@ lines_end left [] = nat_lt 0 left
 lines_end left (line ∷ lines) = nat_le (line_steps line) left && lines_end (left - line_steps line) lines
 
 -- how a run ends by whether its body does, and by whether more steps are asked for than there may be
-abbrev pub reason_of : Bool → Bool → Option Reason
-reason_of ends over = if ends then Some MainReturned else (if over then Some StepsUsedUp else None)
+abbrev pub reason_of : Bool → Bool → Option EndReason
+reason_of ends over = if ends then Some reason.Main else (if over then Some reason.Steps else None)
+
+-- how many steps an event asks Main's actor for
+abbrev pub asked_by : Event → ℕ
+asked_by (Key key pressed) = 0
+asked_by (Turn actor n) = if actor == 1 then n else 0
+asked_by (Round n) = n
+asked_by (Expire actor) = 0

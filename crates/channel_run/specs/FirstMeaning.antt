@@ -15,6 +15,7 @@ use Rattle.first_form.specs.declared.tree.Operand.TheVariants as operand
 use Rattle.first_form.specs.declared.tree.Sum.{Sum}
 use Rattle.first_form.specs.declared.tree.Sign.{Sign}
 use Rattle.first_form.specs.declared.tree.Sign.TheVariants.{Plus, Minus}
+use Rattle.trace_report.specs.TraceText.{print_line, ended_line}
 
 -- a whole number of 32 bits, or a text
 pub data Value : Type 0 where
@@ -108,11 +109,9 @@ shown (Integer (pos n)) = 32 ∷ decimal n
 shown (Integer (negsuc n)) = signed_decimal (negsuc n)
 shown (String words) = words
 
-abbrev pub print_line : List Value → List ℕ
-print_line values = codes "1 print " ++ flat_map shown values ++ 10 ∷ []
-
-abbrev pub ended_line : List ℕ
-ended_line = codes "1 ended" ++ 10 ∷ []
+-- what a print of these values adds to the trace
+abbrev pub printed : List Value → List ℕ
+printed values = print_line 1 (flat_map shown values)
 
 -- a step of the first statement, with what it adds to the trace
 abbrev pub statement_step : Locals → Statement → List Statement → Option (Actor × List ℕ)
@@ -121,13 +120,13 @@ statement_step locals (Assign name form) rest =
     option_map (λ after. (Running (Assign name after ∷ rest) locals, [])) (form_step locals form)
 statement_step locals (Print items) rest =
     option_map_or
-    (λ values. Some (Running rest locals, print_line values))
+    (λ values. Some (Running rest locals, printed values))
     (held_values items)
     (option_map (λ after. (Running (Print after ∷ rest) locals, [])) (forms_step locals items))
 
 -- the one step that the actor has, with what it adds to the trace; none where it has ended
 abbrev pub actor_step : Actor → Option (Actor × List ℕ)
-actor_step (Running [] locals) = Some (Ended, ended_line)
+actor_step (Running [] locals) = Some (Ended, ended_line 1)
 actor_step (Running (statement ∷ rest) locals) = statement_step locals statement rest
 actor_step Ended = None
 

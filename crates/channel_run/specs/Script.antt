@@ -1,7 +1,8 @@
--- A script as the turns that its lines ask for.
-use Rattle.std.specs.Prelude.{ℕ, Bool, ◌+◌, ◌==◌, ◌&&◌, nat_eq, nat_le, List, [], ◌∷◌, drop, length, fold, codes, Option, None, Some, option_map, if◌then◌else◌}
-use Rattle.std.specs.List.{starts_with}
-use Rattle.channel_run.specs.Decimal.{number_up_to}
+-- A script as the events that its lines say.
+use Rattle.std.specs.Prelude.{◌≡◌, ℕ, Bool, true, false, ◌+◌, ◌≤◌, ◌==◌, List, [], ◌∷◌, length, fold, if◌then◌else◌}
+use Rattle.chan_values.specs.declared.event.Event.{Event}
+use Rattle.script_text.specs.Lines.{Says}
+use Rattle.channel_run.specs.declared.script.Script.{Script}
 
 abbrev pub is_line_feed : ℕ → Bool
 is_line_feed b = b == 10
@@ -16,25 +17,28 @@ abbrev pub lines_of : List ℕ → List (List ℕ)
 lines_of [] = []
 lines_of (b ∷ bytes) = if is_line_feed b then [] ∷ lines_of bytes else with_byte b (lines_of bytes)
 
--- no byte 16,777,217 stands in the line
-abbrev pub is_short : List ℕ → Bool
-is_short line = nat_le (length line) 16777216
+-- a script line that says the event, without a byte 16,777,217
+pub record IsLineOf (event : Event) (line : List ℕ) : Type 0 where
+  pub short : length line ≤ 16777216
+  pub says : Says line event
 
--- the n of a line `turn 1 n`
-abbrev pub turn_of : List ℕ → Option ℕ
-turn_of line = if is_short line && starts_with nat_eq line (codes "turn 1 ") then number_up_to 4294967295 (drop 7 line) else None
+abbrev pub IsBadLine : List ℕ → Type 0
+IsBadLine line = (event : Event) → IsLineOf event line → ⊥
 
-abbrev pub turn_first : Option ℕ → Option (List ℕ) → Option (List ℕ)
-turn_first None turns = None
-turn_first (Some n) turns = option_map (λ ns. n ∷ ns) turns
+-- the events of the lines up to the first bad one, and whether there is a bad one
+abbrev pub LinesSay : List (List ℕ) → List Event → Bool → Type 0
+LinesSay [] [] bad = bad ≡ false
+LinesSay [] (event ∷ events) bad = ⊥
+LinesSay (line ∷ lines) [] bad = IsBadLine line × (bad ≡ true)
+LinesSay (line ∷ lines) (event ∷ events) bad = IsLineOf event line × LinesSay lines events bad
 
-abbrev pub turns_in : List (List ℕ) → Option (List ℕ)
-turns_in [] = Some []
-turns_in (line ∷ lines) = turn_first (turn_of line) (turns_in lines)
+abbrev pub ScriptSays : List ℕ → Script → Type 0
+ScriptSays bytes script = LinesSay (lines_of bytes) script.events script.has_bad_line
 
--- the turns of a script in order, where each of its lines is `turn 1 n`
-abbrev pub turns_of : List ℕ → Option (List ℕ)
-turns_of script = turns_in (lines_of script)
+-- the bytes say this script, and no other one
+pub record IsScriptOf (bytes : List ℕ) (script : Script) : Type 0 where
+  pub says : ScriptSays bytes script
+  pub only : (other : Script) → ScriptSays bytes other → other ≡ script
 
 -- how many bytes of a line stand at the end, after this many of it
 abbrev pub unended_after : ℕ → List ℕ → ℕ

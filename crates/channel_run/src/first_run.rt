@@ -1,21 +1,29 @@
 //! A run of a Main of the first form, written as it is made.
-ghost use Rattle.std.specs.Prelude.{◌≡◌, ◌++◌, ◌∷◌, [], ℕ, ◌+◌, ◌-◌, ◌^◌, ◌<◌, min, sum, pos, nat_lt, IsTrue, OnOk, OnErr, IfOk, List, codes, flat_map, sum_by};
+ghost use Rattle.std.specs.Prelude.{◌≡◌, ◌++◌, ◌∷◌, [], ℕ, ◌+◌, ◌-◌, ◌^◌, ◌<◌, min, pos, nat_lt, IsTrue, OnOk, OnErr, IfOk, List, flat_map, sum_by, unwrap_or};
 ghost use Rattle.std.specs.Io.KnownBytes.{Appends};
 ghost use Rattle.outside.specs.Causes.{CountsFault};
-ghost use Rattle.channel_run.specs.FirstLines.{operand_number, sum_number, item_text, line_text, print_text, set_number, numbers_after, sum_steps, item_steps, line_steps, lines_text, lines_end, reason_of};
+ghost use Rattle.channel_run.specs.FirstLines.{operand_number, sum_number, item_text, line_text, items_text, set_number, numbers_after, sum_steps, item_steps, line_steps, lines_text, lines_end, reason_of, asked_by};
 ghost use Rattle.channel_run.specs.FirstLocals.{numbers_in};
 ghost use Rattle.channel_run.specs.FirstMeaning.{Integer, signed_sum, shown};
 ghost use Rattle.first_form.specs.FirstNames.{names_set};
-ghost use Rattle.channel_run.specs.FirstText.{end_line, first_report, first_text};
+ghost use Rattle.channel_run.specs.Answer.{first_text};
+ghost use Rattle.channel_run.specs.FirstText.{first_report};
+ghost use Rattle.trace_report.specs.TraceText.{print_line, end_line};
+ghost use Rattle.chan_values.specs.declared.end_reason.EndReason.TheVariants as EndReason;
 ghost use Rattle.channel_run.specs.Output.{AppendsPrefix};
 
-use crate::output::write_all;
-use chan_values::{Bytes, NoMemory};
+use crate::output::{write_report_line, write_trace_line};
+use crate::script::Script;
+use chan_values::{EndReason, Event, NoMemory, Text};
 use first_form::tree::{FirstMain, Line, Operand, PrintItem, Sign, Sum};
 use outside::faults::FilesFault;
 use outside::streams::Sink;
 use std::alloc::Global;
 use std::collections::BTreeMap;
+use trace_report::{ReportLine, TraceLine};
+
+/// The number of the actor that runs Main.
+const MAIN_ACTOR: u32 = 1;
 
 fn local_number(locals: &BTreeMap<&str, i32>, name: &str) -> i32
     ensures { result ≡ numbers_in locals.now name.now }
@@ -54,45 +62,43 @@ fn sum_number(locals: &BTreeMap<&str, i32>, sum: &Sum) -> i32
     number
 }
 
-fn push_number(alloc: Global, number: i32, text: &mut Bytes) -> Result<(), NoMemory>
+fn push_number(alloc: Global, number: i32, text: &mut Text) -> Result<(), NoMemory>
     ensures { OnOk result (text.new ≡ text.old ++ shown (Integer number)) }
 {
     if number >= 0 {
-        text.push(b' ')?;
+        text.push_str(" ")?;
     }
     let Ok(digits) = number.to_string(alloc) else {
         return Err(NoMemory);
     };
-    text.push_slice(digits.as_bytes())
+    text.push_str(digits.as_str())
 }
 
 fn push_item(
     alloc: Global,
     locals: &BTreeMap<&str, i32>,
     item: &PrintItem,
-    text: &mut Bytes,
+    text: &mut Text,
 ) -> Result<(), NoMemory>
     ensures { OnOk result (text.new ≡ text.old ++ item_text (numbers_in locals.now) item.now) }
 {
     match item {
-        PrintItem::Words(words) => text.push_slice(words.as_str().as_bytes()),
+        PrintItem::Words(words) => text.push_str(words.as_str()),
         PrintItem::Sum(sum) => push_number(alloc, sum_number(locals, sum), text),
     }
 }
 
-fn print_text(
+fn items_text(
     alloc: Global,
     locals: &BTreeMap<&str, i32>,
     items: &[PrintItem],
-) -> Result<Bytes, NoMemory>
-    ensures { IfOk result (λ text. text ≡ print_text (numbers_in locals.now) items.now) }
+) -> Result<Text, NoMemory>
+    ensures { IfOk result (λ text. text ≡ items_text (numbers_in locals.now) items.now) }
 {
-    let mut text = Bytes::new(alloc);
-    text.push_slice("1 print ".as_bytes())?;
+    let mut text = Text::new(alloc);
     for item in items {
         push_item(alloc, locals, item, &mut text)?;
     }
-    text.push(b'\n')?;
     Ok(text)
 }
 
@@ -132,17 +138,6 @@ fn items_steps(items: &[PrintItem]) -> u64
     steps
 }
 
-fn write_bytes<O: Sink>(out: &mut O, bytes: &[u8]) -> Result<(), FilesFault>
-    ensures whole { OnOk result (Appends (O.held out.old) (O.held out.new) bytes.now) }
-    ensures front { OnErr result (AppendsPrefix (O.held out.old) (O.held out.new) bytes.now) }
-    ensures cause { CountsFault (O.faults out.old) (O.faults out.new) result }
-{
-    match write_all(out, bytes) {
-        Ok(()) => Ok(()),
-        Err(_) => Err(FilesFault::Failed),
-    }
-}
-
 fn run_print<O: Sink>(
     alloc: Global,
     locals: &BTreeMap<&str, i32>,
@@ -150,13 +145,19 @@ fn run_print<O: Sink>(
     out: &mut O,
 ) -> Result<(), FilesFault>
     ensures whole { OnOk result
-        (Appends (O.held out.old) (O.held out.new) (print_text (numbers_in locals.now) items.now)) }
+        (Appends (O.held out.old) (O.held out.new) (print_line 1 (items_text (numbers_in locals.now) items.now))) }
     ensures front { OnErr result
-        (AppendsPrefix (O.held out.old) (O.held out.new) (print_text (numbers_in locals.now) items.now)) }
+        (AppendsPrefix (O.held out.old) (O.held out.new) (print_line 1 (items_text (numbers_in locals.now) items.now))) }
     ensures cause { CountsFault (O.faults out.old) (O.faults out.new) result }
 {
-    match print_text(alloc, locals, items) {
-        Ok(text) => write_bytes(out, text.as_slice()),
+    match items_text(alloc, locals, items) {
+        Ok(text) => {
+            let line = TraceLine::Print {
+                actor: MAIN_ACTOR,
+                text: text.as_str(),
+            };
+            write_trace_line(alloc, &line, out)
+        }
         Err(_) => Err(FilesFault::NoMemory),
     }
 }
@@ -229,55 +230,89 @@ fn run_lines<O: Sink>(
     if left == 0 {
         return Ok(false);
     }
-    write_bytes(out, "1 ended\n".as_bytes())?;
+    write_trace_line(alloc, &TraceLine::Ended { actor: MAIN_ACTOR }, out)?;
     Ok(true)
 }
 
-// How many steps the turns ask for, but no more than one over the bound.
-fn steps_asked(turns: &[u32], bound: u32) -> u64
-    ensures { result ≡ min (sum turns.now) (bound + 1) }
+fn asked_by(event: &Event) -> u64
+    ensures steps { result ≡ asked_by event.now }
+    ensures small { result < 2 ^ 32 }
+{
+    match event {
+        Event::Turn(actor, steps) if *actor == MAIN_ACTOR => u64::from(*steps),
+        Event::Round(steps) => u64::from(*steps),
+        _ => 0,
+    }
+}
+
+// How many steps the events ask Main's actor for, but no more than one over the bound.
+fn steps_asked(events: &[Event], bound: u32) -> u64
+    ensures { result ≡ min (sum_by asked_by events.now) (bound + 1) }
 {
     let most = bound as u64 + 1;
     let mut asked: u64 = 0;
-    for turn in turns {
-        asked = most.min(asked + *turn as u64);
+    for event in events {
+        asked = most.min(asked + asked_by(event));
     }
     asked
 }
 
-const REPORT: &str = "node 1 Node owner 0 parent none children none\n";
-
-fn end_line(ended: bool, used_up: bool) -> &'static str
-    ensures { result.now ≡ end_line (reason_of ended used_up) }
+fn end_reason(ended: bool, used_up: bool) -> EndReason
+    ensures { result ≡ unwrap_or (reason_of ended used_up) EndReason.Script }
 {
     if ended {
-        "end main\n"
+        EndReason::Main
     } else if used_up {
-        "end steps\n"
+        EndReason::Steps
     } else {
-        "end script\n"
+        EndReason::Script
     }
 }
 
-/// Runs a Main under the turns of a script, each by the number of its steps, and writes the transcript as it is made. No more
-/// than `bound` steps are made. After an `Err` a front of the transcript was written.
+// Writes the end line and the report.
+fn write_last_lines<O: Sink>(
+    alloc: Global,
+    reason: EndReason,
+    out: &mut O,
+) -> Result<(), FilesFault>
+    ensures whole { OnOk result (Appends (O.held out.old) (O.held out.new) (end_line reason ++ first_report)) }
+    ensures front { OnErr result (AppendsPrefix (O.held out.old) (O.held out.new) (end_line reason ++ first_report)) }
+    ensures cause { CountsFault (O.faults out.old) (O.faults out.new) result }
+{
+    write_trace_line(alloc, &TraceLine::RunEnd(reason), out)?;
+    let node = ReportLine::Node {
+        node: 1,
+        kind: "Node",
+        owner: 0,
+        parent: None,
+        children: &[],
+    };
+    write_report_line(alloc, &node, out)
+}
+
+/// Runs a Main under the events of a script, and writes the transcript as it is made. No more than `bound` steps are made. The
+/// run stops before the first key or bad line of the script, and then has no end line and no report. After an `Err` a front of
+/// the text was written.
 pub(crate) fn run_first<O: Sink>(
     alloc: Global,
     main: &FirstMain,
-    turns: &[u32],
+    script: &Script,
     bound: u32,
     out: &mut O,
 ) -> Result<(), FilesFault>
     requires { IsTrue (names_set [] main.now.lines) }
     ensures whole { OnOk result
-        (Appends (O.held out.old) (O.held out.new) (first_text main.now turns.now bound)) }
+        (Appends (O.held out.old) (O.held out.new) (first_text main.now script.now bound)) }
     ensures front { AppendsPrefix (O.held out.old) (O.held out.new)
-        (first_text main.now turns.now bound) }
+        (first_text main.now script.now bound) }
     ensures cause { CountsFault (O.faults out.old) (O.faults out.new) result }
 {
-    let asked = steps_asked(turns, bound);
+    let asked = steps_asked(script.built_events(), bound);
     let most = bound as u64;
     let ended = run_lines(alloc, main.lines.as_slice(), asked.min(most), out)?;
-    write_bytes(out, end_line(ended, asked > most).as_bytes())?;
-    write_bytes(out, REPORT.as_bytes())
+    if script.is_whole() {
+        write_last_lines(alloc, end_reason(ended, asked > most), out)
+    } else {
+        Ok(())
+    }
 }

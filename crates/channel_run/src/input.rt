@@ -1,16 +1,15 @@
 //! The input, read to its end.
-ghost use Rattle.std.specs.Prelude.{◌≡◌, IfOk, OnSome};
+ghost use Rattle.std.specs.Prelude.{◌≡◌, ℕ, ◌+◌, ◌^◌, ◌<◌, true, false, length, IfOk};
 ghost use Rattle.std.specs.Option.{ForSome};
 ghost use Rattle.std.specs.Io.KnownBytes.{IsAtEnd};
 ghost use Rattle.outside.specs.Causes.{CountsFault};
 ghost use Rattle.channel_run.specs.Input.{Reads};
-ghost use Rattle.channel_run.specs.Script.{turns_of};
+ghost use Rattle.channel_run.specs.Script.{IsScriptOf};
 
-use crate::script::{LONGEST_LINE, turns_of, unended_after};
+use crate::script::{LONGEST_LINE, Script, read_lines, unended_after};
 use chan_values::Bytes;
 use outside::faults::FilesFault;
 use outside::streams::Source;
-use sqlite_items::Items;
 use std::alloc::Global;
 
 /// How many bytes are asked for at once.
@@ -22,7 +21,7 @@ pub(crate) enum InputRead {
     /// All of it.
     Whole(Bytes),
     /// A front in which a line has more than 16,777,216 bytes.
-    LongLine,
+    LongLine(Bytes),
 }
 
 /// Reads the input to its end, or up to a line that is too long.
@@ -43,7 +42,7 @@ pub(crate) fn read_input<S: Source>(alloc: Global, input: &mut S) -> Result<Inpu
                 }
                 unended = unended_after(unended, &piece[..count]);
                 if unended > LONGEST_LINE {
-                    return Ok(InputRead::LongLine);
+                    return Ok(InputRead::LongLine(bytes));
                 }
             }
             Err(_) => return Err(FilesFault::Failed),
@@ -52,22 +51,28 @@ pub(crate) fn read_input<S: Source>(alloc: Global, input: &mut S) -> Result<Inpu
     Err(FilesFault::NoMemory)
 }
 
-/// Reads the script, and gives its turns where each of its lines is `turn 1 n`.
-#[tactic(auto, using(crate::proofs::InputReads::turns_told, crate::proofs::InputReads::no_turns_told))]
-pub(crate) fn read_turns<S: Source>(
-    alloc: Global,
-    input: &mut S,
-) -> Result<Option<Items<u32>>, FilesFault>
-    ensures told { IfOk result (λ turns. ForSome (S.left input.old) (λ script. turns ≡ turns_of script)) }
-    ensures end { IfOk result (λ turns. OnSome turns (IsAtEnd (S.left input.new))) }
+fn script_of(alloc: Global, bytes: &Bytes) -> Result<Script, FilesFault>
+    ensures script { IfOk result (λ script. IsScriptOf bytes.now script) }
+    ensures counted { IfOk result (λ script. script.has_bad_line ≡ true → length script.events + 1 < 2 ^ 64) }
+    ensures cause { (faults : ℕ) → CountsFault faults faults result }
+{
+    match read_lines(alloc, bytes.as_slice()) {
+        Ok(script) => Ok(script),
+        Err(_) => Err(FilesFault::NoMemory),
+    }
+}
+
+/// Reads the script, which is read to its end where it has no bad line.
+#[tactic(auto, using(crate::proofs::InputReads::script_told, crate::proofs::InputReads::long_script_told, crate::proofs::InputReads::long_is_bad))]
+pub(crate) fn read_script<S: Source>(alloc: Global, input: &mut S) -> Result<Script, FilesFault>
+    ensures told { IfOk result (λ script. ForSome (S.left input.old) (λ bytes. IsScriptOf bytes script)) }
+    ensures counted { IfOk result (λ script. script.has_bad_line ≡ true → length script.events + 1 < 2 ^ 64) }
+    ensures end { IfOk result (λ script. script.has_bad_line ≡ false → IsAtEnd (S.left input.new)) }
     ensures cause { CountsFault (S.faults input.old) (S.faults input.new) result }
 {
     match read_input(alloc, input) {
-        Ok(InputRead::Whole(bytes)) => match turns_of(alloc, bytes.as_slice()) {
-            Ok(turns) => Ok(turns),
-            Err(_) => Err(FilesFault::NoMemory),
-        },
-        Ok(InputRead::LongLine) => Ok(None),
+        Ok(InputRead::Whole(bytes)) => script_of(alloc, &bytes),
+        Ok(InputRead::LongLine(bytes)) => script_of(alloc, &bytes),
         Err(fault) => Err(fault),
     }
 }

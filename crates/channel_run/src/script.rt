@@ -1,12 +1,70 @@
-//! A script of lines `turn 1 n`.
-ghost use Rattle.std.specs.Prelude.{◌≡◌, ◌+◌, ◌^◌, ◌<◌, length, IfOk};
+//! A script as the events that its lines say.
+ghost use Rattle.std.specs.Prelude.{◌≡◌, ℕ, true, ◌+◌, ◌^◌, ◌<◌, ◌≤◌, length, IfOk, IfSome, Some};
 ghost use Rattle.std.specs.List.{before_first, after_first, position};
-ghost use Rattle.channel_run.specs.Script.{is_line_feed, turn_of, turns_of, unended_after};
+ghost use Rattle.chan_values.specs.declared.event.Event as event;
+ghost use Rattle.channel_run.specs.Answer.{is_key, has_key, is_whole};
+ghost use Rattle.channel_run.specs.Script.{is_line_feed, IsLineOf, IsScriptOf, unended_after};
 
-use crate::decimal::number_up_to;
-use chan_values::NoMemory;
+use chan_values::{Event, NoMemory};
+use script_text::read_line;
 use sqlite_items::Items;
 use std::alloc::Global;
+
+/// What a script says: the events of its lines up to the first bad one, and whether there is a bad one.
+#[derive(Drop)]
+pub(crate) struct Script {
+    pub events: Items<Event>,
+    pub has_bad_line: bool,
+}
+
+fn is_key(event: &Event) -> bool
+    ensures { result ≡ is_key event.now }
+{
+    match event {
+        Event::Key(_, _) => true,
+        _ => false,
+    }
+}
+
+fn first_key(events: &[Event]) -> Option<usize>
+    ensures { result ≡ position is_key events.now }
+{
+    events.iter().position(|event| is_key(event))
+}
+
+/// The events before the first key.
+#[tactic(auto, using(crate::proofs::Lines::front_found, crate::proofs::Lines::front_missing))]
+fn before_key(events: &[Event]) -> &[Event]
+    ensures { result.now ≡ before_first is_key events.now }
+{
+    match first_key(events) {
+        Some(at) => &events[..at],
+        None => events,
+    }
+}
+
+impl Script {
+    /// The events before the first key.
+    pub(crate) fn built_events(&self) -> &[Event]
+        ensures { result.now ≡ before_first is_key self.now.events }
+    {
+        before_key(self.events.as_slice())
+    }
+
+    /// Whether a key stands among the events.
+    pub(crate) fn has_key(&self) -> bool
+        ensures { result ≡ has_key self.now }
+    {
+        self.events.as_slice().iter().any(is_key)
+    }
+
+    /// Whether all of the script may be run: it has no bad line and no key.
+    pub(crate) fn is_whole(&self) -> bool
+        ensures { result ≡ is_whole self.now }
+    {
+        !self.has_bad_line && !self.has_key()
+    }
+}
 
 fn first_line_feed(script: &[u8]) -> Option<usize>
     ensures { result ≡ position is_line_feed script.now }
@@ -29,37 +87,46 @@ fn split_line(script: &[u8]) -> (&[u8], &[u8])
     }
 }
 
-/// The n of a line `turn 1 n`.
-fn turn_of(line: &[u8]) -> Option<u32>
-    ensures { result ≡ turn_of line.now }
+/// The event that a line says, `None` exactly where the line is bad.
+fn event_of(line: &[u8]) -> Option<Event>
+    ensures says { IfSome result (λ event. IsLineOf event line.now) }
+    ensures found { (event : event.Event) → IsLineOf event line.now → result ≡ Some event }
 {
-    if line.len() <= LONGEST_LINE && line.starts_with(b"turn 1 ") {
-        number_up_to(&line[7..], u32::MAX)
-    } else {
-        None
+    if line.len() > LONGEST_LINE {
+        return None;
     }
+    read_line(line)
 }
 
-/// The turns of a script in order, where each of its lines is `turn 1 n`.
-#[tactic(auto, using(crate::proofs::Lines::turns_none, crate::proofs::Lines::turns_end, crate::proofs::Lines::lines_shorter))]
-pub(crate) fn turns_of(alloc: Global, script: &[u8]) -> Result<Option<Items<u32>>, NoMemory>
-    ensures { IfOk result (λ turns. turns ≡ turns_of script.now) }
+/// The script that the bytes say.
+#[tactic(auto, using(crate::proofs::Lines::lines_shorter))]
+pub(crate) fn read_lines(alloc: Global, bytes: &[u8]) -> Result<Script, NoMemory>
+    ensures script { IfOk result (λ script. IsScriptOf bytes.now script) }
+    ensures counted { IfOk result (λ script. script.has_bad_line ≡ true → length script.events + 1 < 2 ^ 64) }
 {
-    let mut turns = Items::new(alloc);
-    let mut rest = script;
+    let mut events = Items::new(alloc);
+    let mut rest = bytes;
     while !rest.is_empty() {
         let (line, lines) = split_line(rest);
-        match turn_of(line) {
-            None => return Ok(None),
-            Some(steps) => {
-                if turns.push(steps).is_err() {
+        match event_of(line) {
+            None => {
+                return Ok(Script {
+                    events,
+                    has_bad_line: true,
+                });
+            }
+            Some(event) => {
+                if events.push(event).is_err() {
                     return Err(NoMemory);
                 }
             }
         }
         rest = lines;
     }
-    Ok(Some(turns))
+    Ok(Script {
+        events,
+        has_bad_line: false,
+    })
 }
 
 /// How many bytes of a line stand at the end of a piece, after this many of it.

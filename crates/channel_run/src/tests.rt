@@ -17,10 +17,11 @@ const EMPTY: &str = "sub main()\nend sub\n";
 
 const SEVEN: &str = "sub main()\nx = 7\nprint \"x=\"; x; \" \"; x + 2\nend sub\n";
 
-/// How a command ended: its exit status, what the sink holds, and the calls made on the files, the input and the sink.
+/// How a command ended: its exit status and text, what the sink holds, and the calls made on the files, the input and the sink.
 #[derive(Drop)]
 struct Outcome {
     status: u8,
+    text: String,
     written: Bytes,
     calls: (u64, u64, u64),
 }
@@ -102,6 +103,7 @@ fn outcome_of<R: Threads + Abort>(
     );
     Ok(Outcome {
         status: status.exit_code(),
+        text: status.to_string(alloc)?,
         written: out.bytes,
         calls: (files.calls.made, input.calls.made, out.calls.made),
     })
@@ -144,6 +146,24 @@ fn a_first_form_writes_its_transcript(rt: HostRuntime) -> Result<(), Fail> {
         ),
         (SEVEN, "", "100", "end script\n"),
         (
+            SEVEN,
+            "round 100\n",
+            "100",
+            "1 print x= 7  9\n1 ended\nend main\n",
+        ),
+        (
+            SEVEN,
+            "turn 0 9\nturn 2 9\nexpire 1\nround 4\nexpire 0\nturn 1 5\n",
+            "9",
+            "1 print x= 7  9\nend script\n",
+        ),
+        (
+            SEVEN,
+            "turn 1 9\nround 0\nturn 0 1\nround 1\nround 1",
+            "9",
+            "1 print x= 7  9\nend steps\n",
+        ),
+        (
             "sub main()\nprint 2147483647 + 1\nend sub\n",
             "turn 1 100\n",
             "100",
@@ -173,7 +193,7 @@ fn a_first_form_writes_its_transcript(rt: HostRuntime) -> Result<(), Fail> {
 }
 
 #[test]
-fn other_folders_and_scripts_are_not_run_yet(rt: HostRuntime) -> Result<(), Fail> {
+fn for_other_folders_the_script_is_read_and_nothing_is_written(rt: HostRuntime) -> Result<(), Fail> {
     let alloc = rt.alloc();
     let manifest = ("F/manifest", "title=a\n");
     let main = ("F/source/main.brs", EMPTY);
@@ -197,29 +217,49 @@ fn other_folders_and_scripts_are_not_run_yet(rt: HostRuntime) -> Result<(), Fail
         .as_slice(),
         [manifest, ("F/source/main.brs", "")].as_slice(),
     ] {
-        let outcome = outcome_of(&rt, alloc, "run|F|9", contents, "turn 1 1\n", NONE)?;
-        assert_eq!(rt; outcome.status, 9, "{contents:?}");
-        assert_eq!(rt; outcome.written.len(), 0);
-        assert_eq!(rt; outcome.calls.1, 0);
+        for (script, status, text) in [
+            ("", 9, "not yet"),
+            ("turn 1 1\nkey up press\n", 9, "not yet"),
+            ("key up press\nturn 1 1\n\n", 3, "bad script line 3"),
+        ] {
+            let outcome = outcome_of(&rt, alloc, "run|F|9", contents, script, NONE)?;
+            assert_eq!(rt; outcome.status, status, "{contents:?}");
+            assert_eq!(rt; outcome.text.as_str(), text);
+            assert_eq!(rt; outcome.written.len(), 0);
+        }
     }
-    for script in [
-        "\n",
-        "turn 1 1\n\n",
-        "turn 1 1\nturn x 1\n",
-        "turn 01 1",
-        "turn 1 01",
-        "turn 2 1",
-        "turn 1 4294967296",
-        "turn  1 1",
-        "turn 1 1 ",
-        "turn 1",
-        "turn 1 1\r\n",
-        "round 5\n",
-        "key up press\n",
+    Ok(())
+}
+
+#[test]
+fn a_bad_line_or_a_key_ends_what_is_written(rt: HostRuntime) -> Result<(), Fail> {
+    let alloc = rt.alloc();
+    let contents = [("F/manifest", "title=a\n"), ("F/source/main.brs", SEVEN)];
+    let print = "1 print x= 7  9\n";
+    let ended = "1 print x= 7  9\n1 ended\n";
+    // the script, how the command ends, and what is written
+    for (script, text, want) in [
+        ("turn 1 9\nturn x 1\n", "bad script line 2", print),
+        ("\n", "bad script line 1", ""),
+        ("turn 1 100\n\nturn 1 1", "bad script line 2", ended),
+        ("turn 01 1", "bad script line 1", ""),
+        ("turn 1 01", "bad script line 1", ""),
+        ("turn 1 4294967296", "bad script line 1", ""),
+        ("turn  1 1", "bad script line 1", ""),
+        ("turn 1 1 ", "bad script line 1", ""),
+        ("turn 1", "bad script line 1", ""),
+        ("turn 1 1\r\n", "bad script line 1", ""),
+        ("round 5 \n", "bad script line 1", ""),
+        ("round 9\nkey UP press\n", "bad script line 2", print),
+        ("round 9\nkey up press\n", "not yet", print),
+        ("round 9\nkey up press\nround 9\n", "not yet", print),
+        ("round 10\nkey Lit_%C3%A9 release\n", "not yet", ended),
+        ("key OK press", "not yet", ""),
+        ("round 9\nkey up press\nround 9\nx", "bad script line 4", print),
     ] {
-        let outcome = outcome_of(&rt, alloc, "run|F|9", &[manifest, main], script, NONE)?;
-        assert_eq!(rt; outcome.status, 9, "{script}");
-        assert_eq!(rt; outcome.written.len(), 0);
+        let outcome = outcome_of(&rt, alloc, "run|F|100", &contents, script, NONE)?;
+        assert_eq!(rt; outcome.text.as_str(), text, "{script}");
+        assert_eq!(rt; outcome.written.as_slice(), want.as_bytes(), "{script}");
     }
     Ok(())
 }

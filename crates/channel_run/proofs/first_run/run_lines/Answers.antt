@@ -1,4 +1,4 @@
-use Rattle.std.proofs.Common.{◌∙◌, arith}
+use Rattle.std.proofs.Common.{◌∙◌, refl, arith}
 use Rattle.channel_run.proofs.Progress.{progress_at, progress_front, progress_more, progress_end, progress_ended_front, on_err_any}
 use Rattle.channel_run.proofs.first_run.run_lines.Goals as goal
 
@@ -16,7 +16,7 @@ loop-line-preserved g c =
       faults = c.in_ok-run_line.ensures.cause ∙ c.loop-line.invariant.faults;
     }
 
-pub returns-in_err-write_bytes-clause-front : goal.returns-in_err-write_bytes-clause-front
-returns-in_err-write_bytes-clause-front g c =
+pub returns-in_err-write_trace_line-clause-front : goal.returns-in_err-write_trace_line-clause-front
+returns-in_err-write_trace_line-clause-front g c =
     let all = progress_end _ _ _ _ _ _ _ c.loop-line.invariant.progress (omega arith) in
-    on_err_any _ _ (progress_ended_front _ _ _ _ _ _ _ _ all (omega arith) c.as_bytes.ensures.value c.in_err-write_bytes.ensures.front)
+    on_err_any _ _ (progress_ended_front _ _ _ _ _ _ _ _ all (omega arith) refl c.in_err-write_trace_line.ensures.front)
