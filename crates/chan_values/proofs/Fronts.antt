@@ -7,7 +7,7 @@ use Rattle.std.specs.Ordering.{nat_cmp}
 use Rattle.std.specs.Cmp.Lexicographic.{slice_cmp}
 use Rattle.std.specs.declared.cmp.Ordering.TheVariants.{Less}
 use Rattle.chan_values.specs.Folded.{folded}
-use Rattle.chan_values.specs.Tree.{Tree, trees, TreePair, keys_of, values_of, array_of, pairs_of}
+use Rattle.chan_values.specs.Tree.{Tree, TreePair, keys_of, values_of, array_of, pairs_of}
 use Rattle.chan_values.specs.Portable.{IsBounded, IsKeyList}
 use Rattle.chan_values.proofs.Walk.{walked, item_at, some_same, deepest_front, parts_front, values_front}
 

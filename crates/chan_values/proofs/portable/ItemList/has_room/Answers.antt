@@ -1,4 +1,4 @@
-use Rattle.std.proofs.Common.{◌∙◌, ◌≡◌, ◌+◌, ◌≤◌, max, ap, arith}
+use Rattle.std.proofs.Common.{◌∙◌, ◌≡◌, ◌+◌, max, ap, arith}
 use Rattle.chan_values.specs.Tree.{trees, deepest, all_parts, depth, parts}
 use Rattle.chan_values.specs.View.{tree_of}
 use Rattle.chan_values.proofs.Lists.{room_for_item, no_room_for_item, is_below}

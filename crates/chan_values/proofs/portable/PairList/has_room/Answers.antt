@@ -1,4 +1,4 @@
-use Rattle.std.proofs.Common.{◌∙◌, ◌≡◌, ◌+◌, ◌≤◌, max, ap, arith}
+use Rattle.std.proofs.Common.{◌∙◌, ◌≡◌, ◌+◌, max, ap, arith}
 use Rattle.chan_values.specs.Tree.{trees, deepest, all_parts, depth, parts, values_of}
 use Rattle.chan_values.specs.View.{tree_pair_of}
 use Rattle.chan_values.proofs.Lists.{room_for_pair, no_room_for_pair, is_below}
