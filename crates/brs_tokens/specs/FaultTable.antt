@@ -34,6 +34,7 @@ pub record IsScaled (bytes : List ℕ) : Type 0 where
   pub signed : (sign ≡ []) ⊎ ((sign ≡ codes "+") ⊎ (sign ≡ codes "-"))
   pub ends : is_digit last ≡ true
 
+-- a number with a point or an exponent
 abbrev pub IsFloat : List ℕ → Type 0
 IsFloat bytes = IsPointed bytes ⊎ IsScaled bytes
 

@@ -24,15 +24,20 @@ IsSpace bytes = (b : ℕ) × (bytes ≡ b ∷ []) × (is_blank b ≡ true)
 abbrev pub IsName : List ℕ → Type 0
 IsName bytes = (first : ℕ) × (more : List ℕ) × (bytes ≡ first ∷ more) × (begins_name first ≡ true) × AreAll is_name_byte more
 
+-- the word `rem` in any case
 abbrev pub IsRem : List ℕ → Type 0
 IsRem name = is_word (codes "rem") name ≡ true
+
+-- no letter, digit or `_` stands first
+abbrev pub EndsName : List ℕ → Type 0
+EndsName bytes = is_name_byte (slice_index bytes 0) ≡ false
 
 -- a `'`, or the whole word `rem`, and then bytes of its line
 pub record IsComment (bytes : List ℕ) : Type 0 where
   pub mark : List ℕ
   pub line : List ℕ
   pub bytes_are : bytes ≡ mark ++ line
-  pub begins : (mark ≡ apostrophe ∷ []) ⊎ (IsRem mark × (is_name_byte (slice_index line 0) ≡ false))
+  pub begins : (mark ≡ apostrophe ∷ []) ⊎ (IsRem mark × EndsName line)
   pub in_line : AreAll stays_in_line line
 
 -- `&`, an `h` of either case, and hexadecimal digits
