@@ -1,5 +1,5 @@
 -- Bytes have one answer.
-use Rattle.std.proofs.Common.{◌≡◌, ℕ, List, sym, refl, ap, ◌∙◌, subst}
+use Rattle.std.proofs.Common.{◌≡◌, ℕ, List, sym, ap, ◌∙◌, subst}
 use Rattle.httparse.proofs.GrammarLemmas.{request_unique}
 use Rattle.ecp_requests.specs.Answers.{IsAnswer, head, bad_head, more, IsOver, head_room}
 use Rattle.ecp_requests.specs.Heads.{IsFront, HasNoFront}

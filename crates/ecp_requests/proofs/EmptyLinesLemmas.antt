@@ -1,6 +1,6 @@
 -- What a walk over the bytes has seen of empty lines.
-use Rattle.std.proofs.Common.{◌≡◌, ◌↔◌, ℕ, ◌+◌, ◌-◌, ◌<◌, ◌≤◌, Bool, true, false, not, ◌&&◌, ◌||◌, ◌==◌, List, [], ◌∷◌, length, take, drop, get_or, IsTrue, sym, refl, ap, ◌∙◌, subst, arith, ◌⊎◌, inl, inr, ⊎_elim, below_more, length-drop}
-use Rattle.std.proofs.lemmas.Bool.{cases_Bool, false≢true, both_ways, cases_lt, or_parts, or_left, or_right, and_parts}
+use Rattle.std.proofs.Common.{◌≡◌, ℕ, ◌+◌, ◌-◌, ◌<◌, ◌≤◌, Bool, true, false, ◌&&◌, ◌||◌, List, length, take, drop, get_or, sym, refl, ap, arith, ⊎_elim, below_more, length-drop}
+use Rattle.std.proofs.lemmas.Bool.{false≢true, both_ways, cases_lt}
 use Rattle.std.proofs.lemmas.List.{drop_all, take_all}
 use Rattle.ecp_requests.specs.EmptyLines.{is_text, begins_empty_line, IsEmptyLineAt, HasEmptyLine}
 

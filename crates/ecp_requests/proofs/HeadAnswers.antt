@@ -1,5 +1,5 @@
 -- A head has one answer.
-use Rattle.std.proofs.Common.{◌≡◌, ◌≢◌, ℕ, List, codes, Option, Some, None, sym, refl, ap, ◌∙◌}
+use Rattle.std.proofs.Common.{◌≡◌, ◌≢◌, ℕ, List, codes, Option, Some, None, sym}
 use Rattle.ecp_requests.specs.Targets.{Asks, HeadAnswer, asked, bad_method, not_found}
 use Rattle.ecp_requests.specs.declared.request.Request.{Request}
 use Rattle.ecp_requests.specs.declared.request.Request.TheVariants.{NotFound, BadMethod}

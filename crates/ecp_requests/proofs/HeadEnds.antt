@@ -3,7 +3,7 @@ use Rattle.std.proofs.Common.{◌≡◌, ◌≢◌, ℕ, zero, suc, ◌+◌, ◌
 use Rattle.std.specs.List.{flat_map, list_all}
 use Rattle.std.proofs.lemmas.Bool.{both_ways, and_parts, not-true, eq-eqb}
 use Rattle.std.proofs.lemmas.List.Elements.{All-nil, All-cons, All-head, All-tail, All-append, All-weaker}
-use Rattle.httparse.specs.Grammar.{LineEnd, crlf, lf, print_end, print_blank, print_version, Field, print_field, IsField, print_section, RequestHead, IsRequestHead, print_request, ReadsRequest, is_token_byte, is_uri_byte, is_value_byte}
+use Rattle.httparse.specs.Grammar.{LineEnd, crlf, lf, print_end, print_blank, print_version, Field, print_field, IsField, print_section, RequestHead, IsRequestHead, print_request, is_token_byte, is_uri_byte, is_value_byte}
 use Rattle.httparse.proofs.GrammarLemmas.{cons-append, print_request-append}
 use Rattle.ecp_requests.specs.EmptyLines.{is_text}
 
@@ -111,8 +111,13 @@ section_first f fs last rest = regroup (field_text f) (print_end f.end) (flat_ma
 section_length : (f : Field) (fs : List Field) (last : LineEnd)
     → length (print_section (f ∷ fs) last) ≡ length (field_text f) + length (print_end f.end) + length (print_section fs last)
 section_length f fs last =
-    omega (arith, length-append (flat_map print_field (f ∷ fs)) (print_end last), length-append (print_field f) (flat_map print_field fs),
-        length-append (field_text f) (print_end f.end), length-append (flat_map print_field fs) (print_end last))
+    omega (
+      arith,
+      length-append (flat_map print_field (f ∷ fs)) (print_end last),
+      length-append (print_field f) (flat_map print_field fs),
+      length-append (field_text f) (print_end f.end),
+      length-append (flat_map print_field fs) (print_end last),
+    )
 
 lines_end : (line : List ℕ) (end : LineEnd) (fields : List Field) (last : LineEnd) (rest before after : List ℕ) (empty : LineEnd)
     → NoLf line → All IsField fields
@@ -128,8 +133,8 @@ lines_end line end (g ∷ gs) last rest before after empty h fs e =
     let first = section_first g gs last rest in
     ⊎_elim
     (λ p. let is = p.1 in
-        let more = lines_end (field_text g) g.end gs last rest p.0 after empty (field_no_lf g field) (All-tail IsField g gs fs) (sym first ∙ p.2) in
-        omega (arith, more, section_length g gs last))
+    let more = lines_end (field_text g) g.end gs last rest p.0 after empty (field_no_lf g field) (All-tail IsField g gs fs) (sym first ∙ p.2) in
+    omega (arith, more, section_length g gs last))
     (λ p. absurd (token_begins_no_end g.name _ after empty field.name.0 field.name.1 (sym (append_assoc g.name (58 ∷ g.raw) _) ∙ sym first ∙ p.1)))
     (aligned line end (print_section (g ∷ gs) last ++ rest) before (print_end empty ++ after) h e)
 
@@ -197,8 +202,8 @@ first_line_no_lf : (h : RequestHead) → IsRequestHead h → NoLf (first_line h)
 first_line_no_lf h is =
     All-append (λ b. b ≢ 10) h.method (32 ∷ (h.target ++ 32 ∷ print_version h.minor)) (All-weaker _ _ token_no_lf h.method is.method.1)
     (All-cons (λ b. b ≢ 10) 32 (h.target ++ 32 ∷ print_version h.minor) space_no_lf
-        (All-append (λ b. b ≢ 10) h.target (32 ∷ print_version h.minor) (All-weaker _ _ uri_no_lf h.target is.target.1)
-            (All-cons (λ b. b ≢ 10) 32 (print_version h.minor) space_no_lf (version_no_lf h.minor is.minor))))
+    (All-append (λ b. b ≢ 10) h.target (32 ∷ print_version h.minor) (All-weaker _ _ uri_no_lf h.target is.target.1)
+    (All-cons (λ b. b ≢ 10) 32 (print_version h.minor) space_no_lf (version_no_lf h.minor is.minor))))
 
 head_lines : (h : RequestHead) (rest : List ℕ)
     → print_request h ++ rest ≡ print_blank h.blank ++ (first_line h ++ (print_end h.line_end ++ (print_section h.fields h.last ++ rest)))
@@ -218,6 +223,13 @@ head_ends h rest before after empty is text e =
     let skipped = blank_skipped h.blank lines before (10 ∷ (print_end empty ++ after)) text (sym (head_lines h rest) ∙ e) in
     let within = lines_end (first_line h) h.line_end h.fields h.last rest skipped.0 after empty (first_line_no_lf h is) is.fields skipped.3 in
     let before_is = skipped.1 in
-    omega (arith, within, length-append (print_request h) rest, ap length (head_lines h rest), length-append (print_blank h.blank) lines,
-        length-append (first_line h) (print_end h.line_end ++ (print_section h.fields h.last ++ rest)),
-        length-append (print_end h.line_end) (print_section h.fields h.last ++ rest), length-append (print_section h.fields h.last) rest)
+    omega (
+      arith,
+      within,
+      length-append (print_request h) rest,
+      ap length (head_lines h rest),
+      length-append (print_blank h.blank) lines,
+      length-append (first_line h) (print_end h.line_end ++ (print_section h.fields h.last ++ rest)),
+      length-append (print_end h.line_end) (print_section h.fields h.last ++ rest),
+      length-append (print_section h.fields h.last) rest,
+    )

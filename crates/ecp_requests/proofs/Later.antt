@@ -1,13 +1,13 @@
 -- Later bytes leave an answer as it is.
-use Rattle.std.proofs.Common.{◌≡◌, ◌≢◌, ℕ, ◌+◌, ◌-◌, ◌<◌, ◌≤◌, Bool, true, false, ◌&&◌, ◌||◌, ◌==◌, List, [], ◌∷◌, ◌++◌, length, take, drop, get_or, sym, refl, ap, ◌∙◌, subst, arith, append_assoc, length-append, append-nil, length-drop, length-take, take-append-drop, ◌⊎◌, inl, inr, ⊎_elim}
+use Rattle.std.proofs.Common.{◌≡◌, ◌≢◌, ℕ, ◌+◌, ◌-◌, ◌<◌, ◌≤◌, true, ◌&&◌, ◌||◌, ◌==◌, List, [], ◌∷◌, ◌++◌, length, take, drop, sym, ap, ◌∙◌, subst, arith, append_assoc, length-append, append-nil, ◌⊎◌, length-drop, length-take, take-append-drop, inl, inr, ⊎_elim}
 use Rattle.std.proofs.Math.Seq.{take-append_seam, take-append-add}
 use Rattle.std.proofs.lemmas.Bool.{false≢true, and_parts, and_from, or_cases, or_left, eqb-true, cases_lt}
 use Rattle.std.proofs.lemmas.List.{take_all, take-append-le, drop-append-le, get_or-take, get_or_append_left, drop_all}
-use Rattle.httparse.specs.Grammar.{LineEnd, crlf, lf, print_end, RequestHead, ReadsRequest, print_request}
+use Rattle.httparse.specs.Grammar.{LineEnd, crlf, lf, print_end, print_request}
 use Rattle.httparse.proofs.GrammarLemmas.{ReadsRequest-append}
-use Rattle.ecp_requests.specs.Answers.{IsAnswer, head, bad_head, more, IsOver, head_room}
+use Rattle.ecp_requests.specs.Answers.{IsConnectionAnswer, IsAnswer, head, bad_head, more, IsOver, head_room}
 use Rattle.ecp_requests.specs.EmptyLines.{is_text, begins_empty_line, IsEmptyLineAt, HasEmptyLine}
-use Rattle.ecp_requests.specs.Heads.{BeginsWith, IsFront, HasNoFront}
+use Rattle.ecp_requests.specs.Heads.{IsFront, HasNoFront}
 use Rattle.ecp_requests.specs.declared.request.Request.{Request}
 use Rattle.ecp_requests.specs.declared.request.Request.TheVariants.{More}
 use Rattle.ecp_requests.proofs.HeadEnds.{head_ends, HasText}
@@ -21,10 +21,11 @@ room_later n bytes later =
     ⊎_elim
     (λ long. ([], take-append-le n bytes later (omega arith) ∙ sym (append-nil (take n bytes))))
     (λ short.
-        let sum : n ≡ length bytes + (n - length bytes) = omega arith in
-        (take (n - length bytes) later,
-            ap (λ k. take k (bytes ++ later)) sum ∙ take-append-add bytes later (n - length bytes)
-            ∙ ap (λ f. f ++ take (n - length bytes) later) (sym (take_all n bytes short))))
+    let sum : n ≡ length bytes + (n - length bytes) = omega arith in (
+      take (n - length bytes) later,
+      ap (λ k. take k (bytes ++ later)) sum ∙ take-append-add bytes later (n - length bytes)
+          ∙ ap (λ f. f ++ take (n - length bytes) later) (sym (take_all n bytes short)),
+    ))
     (cases_lt n (length bytes))
 
 -- empty lines
@@ -51,9 +52,9 @@ begins_split (a ∷ b ∷ c ∷ rest) h =
     ⊎_elim
     (λ t. let second = eqb-true b 10 t in (lf, c ∷ rest, cc))
     (λ t. let both = and_parts (b == 13) (c == 10) t in
-        let second = eqb-true b 13 both.0 in
-        let third = eqb-true c 10 both.1 in
-        (crlf, rest, cc))
+    let second = eqb-true b 13 both.0 in
+    let third = eqb-true c 10 both.1 in
+    (crlf, rest, cc))
     (or_cases (b == 10) (b == 13 && c == 10) parts.1)
 
 line_within : (bytes : List ℕ) (line : ℕ) → begins_empty_line (drop line bytes) ≡ true → line < length bytes
@@ -82,15 +83,15 @@ no_front_past bytes later none found h begins =
     let text_before = at.before in
     let text : HasText (take line bytes) = (at.text, omega arith, ap is_text (get_or-take line bytes at.text 0 at.before) ∙ at.text_is) in
     let parts : bytes ++ later ≡ take line bytes ++ 10 ∷ (print_end split.0 ++ (split.1 ++ later)) =
-        ap (λ l. l ++ later) (sym (take-append-drop line bytes) ∙ ap (λ d. take line bytes ++ d) split.2)
-        ∙ append_assoc (take line bytes) (10 ∷ (print_end split.0 ++ split.1)) later
-        ∙ ap (λ t. take line bytes ++ 10 ∷ t) (append_assoc (print_end split.0) split.1 later) in
+    ap (λ l. l ++ later) (sym (take-append-drop line bytes) ∙ ap (λ d. take line bytes ++ d) split.2)
+    ∙ append_assoc (take line bytes) (10 ∷ (print_end split.0 ++ split.1)) later
+    ∙ ap (λ t. take line bytes ++ 10 ∷ t) (append_assoc (print_end split.0) split.1 later) in
     let ends = head_ends h begins.0 (take line bytes) (split.1 ++ later) split.0 begins.1.0 text (sym begins.1.1 ∙ parts) in
     let short : length (print_request h) ≤ length bytes =
-        omega (arith, ends, length-drop line bytes, ap length split.2, length-append (print_end split.0) split.1) in
+    omega (arith, ends, length-drop line bytes, ap length split.2, length-append (print_end split.0) split.1) in
     let n = length (print_request h) in
     let front : take n bytes ≡ print_request h =
-        sym (take-append-le n bytes later short) ∙ ap (take n) begins.1.1 ∙ take-append_seam (print_request h) begins.0 in
+    sym (take-append-le n bytes later short) ∙ ap (take n) begins.1.1 ∙ take-append_seam (print_request h) begins.0 in
     let whole : bytes ≡ print_request h ++ drop n bytes = sym (take-append-drop n bytes) ∙ ap (λ f. f ++ drop n bytes) front in
     none h (drop n bytes, (begins.1.0, whole), begins.2)
 
@@ -104,9 +105,9 @@ no_front_later bytes later none (inr line) =
     ⊎_elim
     (λ long. subst HasNoFront (sym (take-append-le 4096 bytes later (omega arith))) none)
     (λ short.
-        let further = room_later 4096 bytes later in
-        let all = take_all 4096 bytes short in
-        subst HasNoFront (ap (λ f. f ++ further.0) (sym all) ∙ sym further.1) (no_front_past bytes further.0 (subst HasNoFront all none) line))
+    let further = room_later 4096 bytes later in
+    let all = take_all 4096 bytes short in
+    subst HasNoFront (ap (λ f. f ++ further.0) (sym all) ∙ sym further.1) (no_front_past bytes further.0 (subst HasNoFront all none) line))
     (cases_lt 4096 (length bytes))
 
 pub answer_later : (bytes later : List ℕ) (answer : Request) → IsAnswer bytes answer → answer ≢ More → IsAnswer (bytes ++ later) answer
@@ -115,3 +116,19 @@ answer_later bytes later answer (head method target front is) decided =
     head method target (subst (λ b. IsFront b method target) (sym further.1) (front_later (head_room bytes) further.0 method target front)) is
 answer_later bytes later answer (bad_head none over is) decided = bad_head (no_front_later bytes later none over) (over_later bytes later over) is
 answer_later bytes later answer (more none over is) decided = absurd (decided is)
+
+front_of_front : (bytes : List ℕ) (len n : ℕ) → len ≤ length bytes → len ≤ n → take n bytes ≡ take len bytes ++ take (n - len) (drop len bytes)
+front_of_front bytes len n within beyond =
+    let long : length (take len bytes) ≡ len = omega (arith, length-take len bytes) in
+    let sum : n ≡ length (take len bytes) + (n - len) = omega arith in
+    ap (take n) (sym (take-append-drop len bytes)) ∙ ap (λ k. take k (take len bytes ++ drop len bytes)) sum
+    ∙ take-append-add (take len bytes) (drop len bytes) (n - len)
+
+pub front_answer : (bytes : List ℕ) (answer : Request) → IsConnectionAnswer bytes answer → (n : ℕ)
+    → IsAnswer (take n bytes) More ⊎ IsAnswer (take n bytes) answer
+front_answer bytes answer c n =
+    ⊎_elim
+    (λ short. inl (c.shortest n short))
+    (λ beyond. inr (subst (λ b. IsAnswer b answer) (sym (front_of_front bytes c.len n c.within beyond))
+    (answer_later (take c.len bytes) (take (n - c.len) (drop c.len bytes)) answer c.front c.decides)))
+    (cases_lt n c.len)

@@ -1,5 +1,5 @@
 -- Names without regard to the case of their letters.
-use Rattle.std.proofs.Common.{◌≡◌, ◌↔◌, ℕ, Bool, true, false, List, [], ◌∷◌, map, Option, Some, None, IfSome, subst, IsTrue, sym, refl, ap, ◌∙◌}
+use Rattle.std.proofs.Common.{◌≡◌, ◌↔◌, ℕ, Bool, true, false, List, [], ◌∷◌, Option, Some, IfSome, subst, IsTrue, sym, refl, ◌∙◌}
 use Rattle.std.specs.Str.{bytes_eq}
 use Rattle.std.proofs.lemmas.Bool.{false≢true, false_from_ne_true}
 use Rattle.std.proofs.lemmas.Slice.Eq.{bytes_eq-Decides}
@@ -33,10 +33,49 @@ find_named text (name ∷ names) words =
     (λ _. find_named text names words.1)
 
 are_words : AreWords WORDS
-are_words =
-    ((refl, λ _ h. h), ((refl, λ _ h. h), ((refl, λ _ h. h), ((refl, λ _ h. h), ((refl, λ _ h. h), ((refl, λ _ h. h), ((refl, λ _ h. h),
-    ((refl, λ _ h. h), ((refl, λ _ h. h), ((refl, λ _ h. h), ((refl, λ _ h. h), ((refl, λ _ h. h), ((refl, λ _ h. h), ((refl, λ _ h. h),
-    ((refl, λ _ h. h), tt)))))))))))))))
+are_words = (
+  (refl, λ _ h. h),
+  (
+    (refl, λ _ h. h),
+    (
+      (refl, λ _ h. h),
+      (
+        (refl, λ _ h. h),
+        (
+          (refl, λ _ h. h),
+          (
+            (refl, λ _ h. h),
+            (
+              (refl, λ _ h. h),
+              (
+                (refl, λ _ h. h),
+                (
+                  (refl, λ _ h. h),
+                  (
+                    (refl, λ _ h. h),
+                    (
+                      (refl, λ _ h. h),
+                      (
+                        (refl, λ _ h. h),
+                        (
+                          (refl, λ _ h. h),
+                          (
+                            (refl, λ _ h. h),
+                            ((refl, λ _ h. h), tt),
+                          ),
+                        ),
+                      ),
+                    ),
+                  ),
+                ),
+              ),
+            ),
+          ),
+        ),
+      ),
+    ),
+  ),
+)
 
 pub word_named : (text : List ℕ) (r : Option KeyName) → r ≡ find (has_name text) WORDS → IfSome r (λ name. IsNameOf text name)
 word_named text r is = subst (λ o. IfSome o (λ name. IsNameOf text name)) (sym is) (find_named text WORDS are_words)

@@ -12,7 +12,7 @@ mod target;
 
 pub use key_lines::write_key_lines;
 pub use key_name::KeyName;
-pub use laws::later_bytes_change_nothing;
+pub use laws::{later_bytes_change_nothing, pieces_make_no_difference};
 pub use replies::reply;
 pub use request::{Request, read_request};
 

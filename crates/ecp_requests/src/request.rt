@@ -27,9 +27,9 @@ pub enum Request {
     NotFound,
     /// A good target with a method other than POST.
     BadMethod,
-    /// No head of a request, whatever follows.
+    /// No head, and an empty line or more than 4,096 bytes.
     BadHead,
-    /// A head that is not at its end.
+    /// Neither a head nor an empty line yet.
     More,
 }
 

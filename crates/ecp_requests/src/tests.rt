@@ -123,7 +123,10 @@ fn long_head(alloc: Global, lines: usize, len: usize) -> Result<Vec<u8>, AllocEr
 #[test]
 fn a_head_has_its_bounds(rt: HostRuntime) -> Result<(), Fail> {
     assert_eq!(rt; read_request(&long_head(rt.alloc(), 63, 1)?), tap(Key::Up));
-    assert_eq!(rt; read_request(&long_head(rt.alloc(), 64, 1)?), Request::BadHead);
+    assert_eq!(rt;
+        read_request(&long_head(rt.alloc(), 64, 1)?),
+        Request::BadHead
+    );
     let head = long_head(rt.alloc(), 0, 4062)?;
     assert_eq!(rt; head.len(), 4096);
     assert_eq!(rt; read_request(&head), tap(Key::Up));

@@ -1,6 +1,6 @@
-use Rattle.std.proofs.Common.{◌≡◌, refl, sym, subst}
+use Rattle.std.proofs.Common.{refl, subst}
 use Rattle.std.proofs.lemmas.Bool.{false≢true}
-use Rattle.ecp_requests.specs.Answers.{IsAnswer, head, bad_head, more}
+use Rattle.ecp_requests.specs.Answers.{head, bad_head, more}
 use Rattle.ecp_requests.specs.Heads.{IsFront, HasNoFront}
 use Rattle.ecp_requests.proofs.AnswersLemmas.{only_head, only_bad_head, only_more}
 use Rattle.ecp_requests.proofs.request.read_request.Goals as goal

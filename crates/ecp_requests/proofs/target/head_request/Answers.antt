@@ -1,6 +1,6 @@
 use Rattle.std.proofs.Common.{refl}
 use Rattle.std.proofs.lemmas.Bool.{false≢true}
-use Rattle.ecp_requests.specs.Targets.{HeadAnswer, asked, bad_method, not_found}
+use Rattle.ecp_requests.specs.Targets.{asked, bad_method, not_found}
 use Rattle.ecp_requests.proofs.HeadAnswers.{only_asked, only_bad_method, only_not_found, nothing_asked}
 use Rattle.ecp_requests.proofs.target.head_request.Goals as goal
 
