@@ -3,6 +3,7 @@ use Rattle.std.specs.Prelude.{◌≡◌, ℕ, ◌+◌, ◌<◌, List, [], ◌∷
 use Rattle.std.specs.List.{insert, remove}
 use Rattle.chan_values.specs.Folded.{folded}
 use Rattle.heap_meaning.specs.Values.{Value, Direct, Cell, StoreValue, Words, Reference, Entry, filler_meant}
+use Rattle.heap_meaning.specs.Reading.{place_of}
 use Rattle.heap_meaning.specs.Keys.{placed, with_key, without_key}
 use Rattle.heap_meaning.specs.Store.{Object, ArrayObject, MapObject, Store}
 use Rattle.heap_meaning.specs.Cells.{Content, Cells, cell_at, count_at, occurrence}
@@ -18,10 +19,14 @@ abbrev pub Belongs : Heap → Value → Type 0
 Belongs h (Direct plain) = Unit {0}
 Belongs h (Cell k) = 0 < count_at h.cells k
 
+-- what the cell at a place holds
+abbrev pub content_of_place : Heap → Option ℕ → Option Content
+content_of_place h None = None
+content_of_place h (Some k) = option_map (λ c. c.content) (cell_at h.cells k)
+
 -- what the value's cell holds
 abbrev pub content_at : Heap → Value → Option Content
-content_at h (Direct plain) = None
-content_at h (Cell k) = option_map (λ c. c.content) (cell_at h.cells k)
+content_at h v = content_of_place h (place_of v)
 
 abbrev pub no_references : Outside
 no_references k = 0

@@ -1,10 +1,9 @@
 -- Associative arrays as finite maps: lists of entries whose keys ascend.
-use Rattle.std.specs.Prelude.{◌≡◌, ℕ, ◌<◌, List, [], ◌∷◌, ◌++◌, map, length, Option, Some, None, Bool, true, cond, slice_get, slice_set, nat_lt, replicate, ◌-◌}
+use Rattle.std.specs.Prelude.{◌≡◌, ℕ, ◌<◌, ◌≤◌, List, [], ◌∷◌, ◌++◌, map, length, Option, Some, None, Bool, true, cond, slice_get, slice_set, nat_lt, replicate, ◌-◌}
 use Rattle.std.specs.Cmp.Lexicographic.{slice_cmp}
 use Rattle.std.specs.Ordering.{nat_cmp, is_lt}
 use Rattle.std.specs.List.{filter}
 use Rattle.std.specs.Str.{bytes_eq}
-use Rattle.chan_values.specs.Folded.{folded}
 use Rattle.heap_meaning.specs.Values.{Entry}
 
 -- one key stands before the other, byte by byte
@@ -36,13 +35,11 @@ with_key entries key value = before_key entries key ++ record { key = key; value
 abbrev pub without_key : {A : Type 0} → List (Entry A) → List ℕ → List (Entry A)
 without_key entries key = before_key entries key ++ after_key entries key
 
--- each key stands before all later ones, so none comes twice
-abbrev pub Ascending : List (List ℕ) → Type 0
-Ascending keys = (i j : ℕ) (k l : List ℕ) → i < j → slice_get keys i ≡ Some k → slice_get keys j ≡ Some l → is_before k l ≡ true
-
--- no key has a capital ASCII letter
-abbrev pub AllFolded : List (List ℕ) → Type 0
-AllFolded keys = (i : ℕ) (k : List ℕ) → slice_get keys i ≡ Some k → folded k ≡ k
+-- the key is none of these, and would stand at this place among them
+pub record IsGap (keys : List (List ℕ)) (key : List ℕ) (i : ℕ) : Type 0 where
+  pub within : i ≤ length keys
+  pub before : (j : ℕ) (k : List ℕ) → j < i → slice_get keys j ≡ Some k → is_before k key ≡ true
+  pub after : (j : ℕ) (k : List ℕ) → i ≤ j → slice_get keys j ≡ Some k → is_before key k ≡ true
 
 -- items with this one at a place, after fillers where it lies past the end
 abbrev pub placed : {A : Type 0} → A → List A → ℕ → A → List A

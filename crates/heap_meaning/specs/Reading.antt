@@ -1,11 +1,11 @@
 -- What the content of a value's cell lets be read.
-use Rattle.std.specs.Prelude.{◌≡◌, ℕ, ◌<◌, List, [], length, Option, Some, None, slice_get}
+use Rattle.std.specs.Prelude.{◌≡◌, ℕ, ◌≤◌, ◌^◌, List, [], length, Option, Some, None, slice_get}
 use Rattle.chan_values.specs.declared.message.Message as m
 use Rattle.heap_meaning.specs.declared.plain.Plain as p
 use Rattle.heap_meaning.specs.declared.shape.Shape as k
 use Rattle.heap_meaning.specs.declared.shape.Shape.TheVariants as s
 use Rattle.heap_meaning.specs.Values.{Value, Direct, Cell}
-use Rattle.heap_meaning.specs.Keys.{keys_of, values_of, value_at_key, Ascending, AllFolded}
+use Rattle.heap_meaning.specs.Keys.{keys_of, values_of, value_at_key}
 use Rattle.heap_meaning.specs.Cells.{Content, Text, Array, Pairs, Message}
 
 -- the plain value that it is
@@ -73,7 +73,7 @@ HoldsItems (Some (Array items)) = Unit {0}
 HoldsItems (Some (Pairs entries)) = Unit {0}
 HoldsItems _ = ⊥
 
--- the keys are folded, and each stands before all later ones
-pub record InOrder (keys : List (List ℕ)) : Type 0 where
-  pub ascending : Ascending keys
-  pub all_folded : AllFolded keys
+-- the key is new, and there is no room for one more
+pub record IsFull (content : Option Content) (key : List ℕ) : Type 0 where
+  pub new : value_in content key ≡ None
+  pub long : 2 ^ 20 ≤ length_in content
