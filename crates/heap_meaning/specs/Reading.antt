@@ -4,7 +4,7 @@ use Rattle.chan_values.specs.declared.message.Message as m
 use Rattle.heap_meaning.specs.declared.plain.Plain as p
 use Rattle.heap_meaning.specs.declared.shape.Shape as k
 use Rattle.heap_meaning.specs.declared.shape.Shape.TheVariants as s
-use Rattle.heap_meaning.specs.Values.{Value, Direct, Cell}
+use Rattle.heap_meaning.specs.Values.{Value, Direct, Cell, Entry}
 use Rattle.heap_meaning.specs.Keys.{keys_of, values_of, value_at_key}
 use Rattle.heap_meaning.specs.Cells.{Content, Text, Array, Pairs, Message}
 
@@ -42,6 +42,11 @@ item_in _ i = None
 abbrev pub value_in : Option Content → List ℕ → Option Value
 value_in (Some (Pairs entries)) key = value_at_key entries key
 value_in _ key = None
+
+-- the entries of an associative array
+abbrev pub entries_in : Option Content → Option (List (Entry Value))
+entries_in (Some (Pairs entries)) = Some entries
+entries_in _ = None
 
 -- the keys of an associative array
 abbrev pub keys_in : Option Content → List (List ℕ)

@@ -1,0 +1,1 @@
+//! Associative arrays of a heap.
