@@ -10,6 +10,7 @@ ghost use Rattle.heap_meaning.specs.Framing.{Fresh};
 ghost use Rattle.heap_meaning.specs.declared.plain.Plain as p;
 ghost use Rattle.chan_values.specs.Folded.{folded};
 ghost use Rattle.brs_heap.specs.Content.{content_of};
+ghost use Rattle.brs_heap.specs.Sound.{InOrder};
 
 use crate::Value;
 use crate::cell::{Cell, Content, lower, raise};
@@ -121,6 +122,19 @@ impl Heap {
         }
     }
 
+    /// A new cell with one reference.
+    fn add(&mut self, content: Content) -> Result<Value, NoMemory>
+        requires { InOrder (content_of content) }
+        ensures fresh { IfOk result (λ v. Fresh self.old self.new v (content_of content)) }
+        ensures unchanged { OnErr result (self.new ≡ self.old) }
+        ensures shares { self.new.shares ≡ self.old.shares }
+    {
+        let Ok(place) = self.cells.insert(Cell { count: 1, content }) else {
+            return Err(NoMemory);
+        };
+        Ok(Value::cell(place))
+    }
+
     /// A new text.
     pub fn make_text(&mut self, text: Text) -> Result<Value, NoMemory>
         ensures made { IfOk result (λ v. MakesText self.old self.new v text) }
@@ -128,11 +142,7 @@ impl Heap {
         ensures unchanged { OnErr result (self.new ≡ self.old) }
         ensures shares { self.new.shares ≡ self.old.shares }
     {
-        let content = Content::Text(text);
-        match self.cells.insert(Cell { count: 1, content }) {
-            Ok(place) => Ok(Value::cell(place)),
-            Err(_) => Err(NoMemory),
-        }
+        self.add(Content::Text(text))
     }
 
     /// A new array without items.
@@ -142,11 +152,8 @@ impl Heap {
         ensures unchanged { OnErr result (self.new ≡ self.old) }
         ensures shares { self.new.shares ≡ self.old.shares }
     {
-        let content = Content::Array(Vec::new(self.alloc));
-        match self.cells.insert(Cell { count: 1, content }) {
-            Ok(place) => Ok(Value::cell(place)),
-            Err(_) => Err(NoMemory),
-        }
+        let items = Vec::new(self.alloc);
+        self.add(Content::Array(items))
     }
 
     /// A new associative array without keys.
@@ -156,11 +163,8 @@ impl Heap {
         ensures unchanged { OnErr result (self.new ≡ self.old) }
         ensures shares { self.new.shares ≡ self.old.shares }
     {
-        let content = Content::Pairs(Vec::new(self.alloc));
-        match self.cells.insert(Cell { count: 1, content }) {
-            Ok(place) => Ok(Value::cell(place)),
-            Err(_) => Err(NoMemory),
-        }
+        let entries = Vec::new(self.alloc);
+        self.add(Content::Pairs(entries))
     }
 
     /// A new message.
@@ -170,11 +174,7 @@ impl Heap {
         ensures unchanged { OnErr result (self.new ≡ self.old) }
         ensures shares { self.new.shares ≡ self.old.shares }
     {
-        let content = Content::Message(m);
-        match self.cells.insert(Cell { count: 1, content }) {
-            Ok(place) => Ok(Value::cell(place)),
-            Err(_) => Err(NoMemory),
-        }
+        self.add(Content::Message(m))
     }
 
     /// What the value's cell holds.

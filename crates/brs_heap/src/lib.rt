@@ -7,8 +7,9 @@
 
 mod arrays;
 mod cell;
-mod changes;
+mod entries;
 mod heap;
+mod items;
 mod keys;
 mod maps;
 mod places;

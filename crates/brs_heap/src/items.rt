@@ -1,16 +1,15 @@
-//! What changes in one cell.
+//! What changes in the items of one cell.
 ghost use Rattle.std.specs.Prelude.{◌≡◌, ◌+◌, ◌-◌, ◌^◌, ◌<◌, ◌≤◌, List, ◌∷◌, map, length, slice_get, slice_set, slice_index_or, Some, None, IfOk, OnOk, IfErr, OnErr, IfNone, OnSome, option_map};
 ghost use Rattle.std.specs.List.{insert, remove};
 ghost use Rattle.heap_meaning.specs.Values.{filler};
 ghost use Rattle.heap_meaning.specs.Keys.{placed};
-ghost use Rattle.heap_meaning.specs.Reading.{HoldsArray, HoldsPairs, item_in, children_in, length_in};
-ghost use Rattle.heap_meaning.specs.Framing.{ItemsChange, EntriesChange};
+ghost use Rattle.heap_meaning.specs.Reading.{HoldsArray, item_in, children_in, length_in};
+ghost use Rattle.heap_meaning.specs.Framing.{ItemsChange};
 ghost use Rattle.brs_heap.specs.Slots.{slot_at, slot_content, seen};
 ghost use Rattle.brs_heap.specs.Sound.{Written};
 
 use crate::Value;
-use crate::cell::{Cell, Content, Entry};
-use chan_values::Text;
+use crate::cell::{Cell, Content};
 use heap_meaning::Plain;
 use slab::Slab;
 
