@@ -1,1 +1,9 @@
+pub mod ErrorNumber
 pub mod Folded
+pub mod Tree
+pub mod Portable
+pub mod Codes
+pub mod View
+pub mod Falls
+pub mod Escape
+pub mod ValueText
