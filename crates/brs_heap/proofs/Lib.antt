@@ -1,3 +1,7 @@
 pub mod Slots
 pub mod Making
-pub mod Keys
+pub mod Search
+pub mod Growth
+pub mod Writing
+pub mod Comparing
+pub mod Calls

@@ -42,13 +42,13 @@ raise_moves old slots new shares less k v q e is b name store before after s m =
 pub same_moves : (old : Heap) (v : Value) → place_of v ≡ None → Moves old old no_references (references_of v)
 same_moves old v e name store before after s m = stands_same name old.cells store before after s (λ k. let a = m k in let z = no_place v e k in omega arith)
 
+abbrev content : Option Cell → Option Content
+content o = option_map (λ c. c.content) (shown o)
+
 -- what the slots show is unchanged by a share
 pub raise_contents : (old : Heap) (slots new : Slots) (shares less : ℕ) (k : ℕ) → record { cells = seen slots; shares = shares } ≡ old → new ≡ raised slots k (slot_at slots k) → (w : Value) → content_at (record { cells = seen new; shares = less }) w ≡ content_at old w
 raise_contents old slots new shares less k q e w = at_place (place_of w) ∙ ap (λ (h : Heap). content_at h w) q
   where
-    abbrev content : Option Cell → Option Content
-    content o = option_map (λ c. c.content) (shown o)
-
     go : (i : ℕ) (o : Option Cell) → slot_at slots k ≡ o → new ≡ raised slots k o → content (slot_at new i) ≡ content (slot_at slots i)
     go i None q f = ap (λ x. content (slot_at x i)) f
     go i (Some c) q f =

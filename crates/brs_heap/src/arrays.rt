@@ -53,10 +53,7 @@ impl Heap {
             return Err(SetFault::TooLong(item));
         }
         let Some(place) = v.place() else { unreachable!() };
-        match insert_item(&mut self.cells, place, at, item) {
-            Err(back) => Err(SetFault::NoMemory(back)),
-            Ok(()) => Ok(()),
-        }
+        insert_item(&mut self.cells, place, at, item)
     }
 
     /// Takes the item at a place of an array out, counted from 0, and closes the gap. It is `None`

@@ -7,10 +7,19 @@ ghost use Rattle.heap_meaning.specs.Reading.{HoldsPairs, keys_in, children_in, l
 ghost use Rattle.heap_meaning.specs.Framing.{EntriesChange};
 ghost use Rattle.brs_heap.specs.Slots.{slot_at, slot_content, seen};
 ghost use Rattle.brs_heap.specs.Sound.{Written};
+ghost use Rattle.brs_heap.specs.declared.heap.SetFault.TheVariants.{NoMemory};
 
-use crate::Value;
+use crate::{SetFault, Value};
 use crate::cell::{Cell, Content, Entry};
 use slab::Slab;
+
+/// The value of an entry, without its key.
+fn value_of_entry(entry: Entry) -> Value
+    ensures { result ≡ entry.value }
+{
+    let Entry { key: _, value } = entry;
+    value
+}
 
 /// Puts the value into the entry at a place, and answers what stood there.
 pub fn put_value(cells: &mut Slab<Cell>, place: usize, at: usize, item: Value) -> Value
@@ -29,11 +38,11 @@ pub fn put_value(cells: &mut Slab<Cell>, place: usize, at: usize, item: Value) -
 }
 
 /// Puts a new entry at the place where its key would stand. After an `Err` nothing has changed.
-pub fn insert_entry(cells: &mut Slab<Cell>, place: usize, at: usize, entry: Entry) -> Result<(), Value>
+pub fn insert_entry(cells: &mut Slab<Cell>, place: usize, at: usize, entry: Entry) -> Result<(), SetFault>
     requires pairs { HoldsPairs (slot_content (slot_at cells.old.slots place)) }
     requires gap { IsGap (keys_in (slot_content (slot_at cells.old.slots place))) entry.key at }
     ensures written { OnOk result (Written cells.old.slots cells.new.slots place (EntriesChange (λ entries. with_key entries entry.key entry.value))) }
-    ensures back { IfErr result (λ given. given ≡ entry.value) }
+    ensures back { IfErr result (λ fault. fault ≡ NoMemory entry.value) }
     ensures unchanged { OnErr result (seen cells.new.slots ≡ seen cells.old.slots) }
 {
     match cells.get_mut(place) {
@@ -41,10 +50,7 @@ pub fn insert_entry(cells: &mut Slab<Cell>, place: usize, at: usize, entry: Entr
         Some(cell) => match &mut cell.content {
             Content::Pairs(entries) => match entries.insert(at, entry) {
                 Ok(()) => Ok(()),
-                Err(refused) => {
-                    let Entry { key: _, value } = refused.value;
-                    Err(value)
-                }
+                Err(refused) => Err(SetFault::NoMemory(value_of_entry(refused.value))),
             },
             _ => unreachable!(),
         },
@@ -61,10 +67,7 @@ pub fn take_entry(cells: &mut Slab<Cell>, place: usize, at: usize) -> Value
     match cells.get_mut(place) {
         None => unreachable!(),
         Some(cell) => match &mut cell.content {
-            Content::Pairs(entries) => {
-                let Entry { key: _, value } = entries.remove(at);
-                value
-            }
+            Content::Pairs(entries) => value_of_entry(entries.remove(at)),
             _ => unreachable!(),
         },
     }

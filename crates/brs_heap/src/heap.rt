@@ -41,6 +41,11 @@ impl Model for Heap {
 
     ghost Value = { Shown };
 
+    ghost use Rattle.std.specs.Coded.{codes};
+    ghost use Rattle.chan_values.specs.Codes.{tree_code};
+
+    ghost coded = { Prim.hlevel (codes, tree_code) };
+
     ghost use Rattle.brs_heap.specs.Slots.{seen};
     ghost use Rattle.brs_heap.specs.Sound.{IsSound};
 
@@ -70,11 +75,12 @@ impl Heap {
         ensures moves { Belongs self.old v.now → Moves self.old self.new no_references (references_of result) }
         ensures shares { self.old.shares ≤ self.new.shares + 1 }
     {
-        if let Some(place) = v.place() {
-            raise(&mut self.cells, place);
-            self.shares -= 1;
-        }
-        v.twin()
+        let Some(place) = v.place() else {
+            return v.twin();
+        };
+        raise(&mut self.cells, place);
+        self.shares -= 1;
+        Value::cell(place)
     }
 
     /// One more value like the item at a place of an array, `None` exactly where there is none.
@@ -117,9 +123,8 @@ impl Heap {
         ensures plain { (plain : p.Plain) → v ≡ Direct plain → self.new ≡ self.old }
         ensures shares { self.new.shares ≡ self.old.shares }
     {
-        if let Some(place) = v.place() {
-            lower(&mut self.cells, place);
-        }
+        let Some(place) = v.place() else { return };
+        lower(&mut self.cells, place);
     }
 
     /// A new cell with one reference.

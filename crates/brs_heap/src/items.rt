@@ -7,8 +7,9 @@ ghost use Rattle.heap_meaning.specs.Reading.{HoldsArray, item_in, children_in, l
 ghost use Rattle.heap_meaning.specs.Framing.{ItemsChange};
 ghost use Rattle.brs_heap.specs.Slots.{slot_at, slot_content, seen};
 ghost use Rattle.brs_heap.specs.Sound.{Written};
+ghost use Rattle.brs_heap.specs.declared.heap.SetFault.TheVariants.{NoMemory};
 
-use crate::Value;
+use crate::{SetFault, Value};
 use crate::cell::{Cell, Content};
 use heap_meaning::Plain;
 use slab::Slab;
@@ -56,11 +57,11 @@ pub fn place_item(cells: &mut Slab<Cell>, place: usize, at: usize, item: Value) 
 }
 
 /// Puts the item before those from this place of the array on.
-pub fn insert_item(cells: &mut Slab<Cell>, place: usize, at: usize, item: Value) -> Result<(), Value>
+pub fn insert_item(cells: &mut Slab<Cell>, place: usize, at: usize, item: Value) -> Result<(), SetFault>
     requires array { HoldsArray (slot_content (slot_at cells.old.slots place)) }
     requires at { at ≤ length_in (slot_content (slot_at cells.old.slots place)) }
     ensures written { OnOk result (Written cells.old.slots cells.new.slots place (ItemsChange (λ items. insert items at item))) }
-    ensures back { IfErr result (λ given. given ≡ item) }
+    ensures back { IfErr result (λ fault. fault ≡ NoMemory item) }
     ensures unchanged { OnErr result (seen cells.new.slots ≡ seen cells.old.slots) }
 {
     match cells.get_mut(place) {
@@ -68,7 +69,7 @@ pub fn insert_item(cells: &mut Slab<Cell>, place: usize, at: usize, item: Value)
         Some(cell) => match &mut cell.content {
             Content::Array(items) => match items.insert(at, item) {
                 Ok(()) => Ok(()),
-                Err(refused) => Err(refused.value),
+                Err(refused) => Err(SetFault::NoMemory(refused.value)),
             },
             _ => unreachable!(),
         },

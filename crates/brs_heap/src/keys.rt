@@ -18,9 +18,10 @@ fn compare_folded(name: &[u8], key: &[u8]) -> Ordering
         if at >= key.len() {
             return Ordering::Greater;
         }
-        let order = name[at].to_ascii_lowercase().cmp(&key[at]);
-        if order != Ordering::Equal {
-            return order;
+        match name[at].to_ascii_lowercase().cmp(&key[at]) {
+            Ordering::Less => return Ordering::Less,
+            Ordering::Greater => return Ordering::Greater,
+            Ordering::Equal => {}
         }
     }
     if name.len() < key.len() {

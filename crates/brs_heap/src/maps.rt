@@ -60,10 +60,7 @@ impl Heap {
             return Err(SetFault::NoMemory(item));
         };
         let entry = Entry { key, value: item };
-        match insert_entry(&mut self.cells, place, at, entry) {
-            Err(back) => Err(SetFault::NoMemory(back)),
-            Ok(()) => Ok(()),
-        }
+        insert_entry(&mut self.cells, place, at, entry)
     }
 
     /// Takes the value at a key of an associative array out, with the key, whatever the case of its

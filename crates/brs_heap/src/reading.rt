@@ -1,11 +1,11 @@
 //! What a heap lets be read.
 ghost use Rattle.std.specs.Prelude.{◌≡◌, option_copied};
-ghost use Rattle.std.specs.Prelude.{slice_get, map, IfSome, option_map};
+ghost use Rattle.std.specs.Prelude.{IsTrue, ◌↔◌, slice_get, map, IfSome, option_map};
 ghost use Rattle.chan_values.specs.Folded.{folded};
 ghost use Rattle.chan_values.specs.Portable.{IsKeyList};
 ghost use Rattle.heap_meaning.specs.Keys.{keys_of};
 ghost use Rattle.heap_meaning.specs.Heap.{content_at};
-ghost use Rattle.heap_meaning.specs.Reading.{plain_of, shape_in, text_in, message_in, item_in, value_in, keys_in, entries_in, length_in};
+ghost use Rattle.heap_meaning.specs.Reading.{plain_of, shape_in, text_in, message_in, item_in, value_in, keys_in, entries_in, length_in, HoldsArray, HoldsPairs};
 ghost use Rattle.brs_heap.specs.Content.{entry_of};
 
 use crate::cell::{Content, Entry};
@@ -55,6 +55,20 @@ impl Heap {
         }
     }
 
+    /// Whether it is an array, which `set` and `insert` need. Takes no memory.
+    pub fn holds_array(&self, v: &Value) -> bool
+        ensures { IsTrue result ↔ HoldsArray (content_at self.now v.now) }
+    {
+        matches!(self.content(v), Some(Content::Array(_)))
+    }
+
+    /// Whether it is an associative array, which `set_key` needs. Takes no memory.
+    pub fn holds_pairs(&self, v: &Value) -> bool
+        ensures { IsTrue result ↔ HoldsPairs (content_at self.now v.now) }
+    {
+        matches!(self.content(v), Some(Content::Pairs(_)))
+    }
+
     /// How many items or keys there are, 0 where it is no array and no associative array. Takes no
     /// memory.
     pub fn length(&self, v: &Value) -> usize
@@ -83,6 +97,7 @@ impl Heap {
         ensures entries { option_map (map entry_of) (option_copied result) ≡ entries_in (content_at self.now v.now) }
         ensures ordered { IfSome result (λ entries. IsKeyList (keys_of (map entry_of entries.now))) }
     {
+        let _cells = &self.cells;
         match self.content(v) {
             Some(Content::Pairs(entries)) => Some(entries.as_slice()),
             _ => None,

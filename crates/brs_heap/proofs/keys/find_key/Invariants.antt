@@ -1,6 +1,6 @@
 use Rattle.std.proofs.Common.{◌-◌}
 use Rattle.brs_heap.specs.Content.{entry_of}
-use Rattle.brs_heap.proofs.Keys.{Between}
+use Rattle.brs_heap.proofs.Search.{Between}
 use Rattle.std.specs.Prelude.{map}
 use Rattle.chan_values.specs.Folded.{folded}
 use Rattle.heap_meaning.specs.Keys.{keys_of}

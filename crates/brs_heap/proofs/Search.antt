@@ -12,6 +12,11 @@ use Rattle.heap_meaning.specs.Keys.{is_before, IsGap}
 use Rattle.heap_meaning.proofs.Searching.{sorted_before}
 use Rattle.heap_meaning.proofs.Lists.{lt_or}
 
+less : (o : Ordering) → is_lt o ≡ true → o ≡ Less
+less Less e = refl
+less Equal e = absurd cc
+less Greater e = absurd cc
+
 -- the key is none of those below `low`, which are before it, and none of those from `high` on, which are after it
 pub record Between (keys : List (List ℕ)) (key : List ℕ) (low high : ℕ) : Type 0 where
   pub order : low ≤ high
@@ -34,28 +39,18 @@ module _ (keys : List (List ℕ)) (key : List ℕ) (low high : ℕ) (b : Between
     order = l;
     within = let w = b.within in omega arith;
     before = b.before;
-    after = λ j x le q. elim (lt_or middle j) [ inl lt ↦ ap is_lt (nat_list_cmp_total.trans key k x e (less (sorted_before keys j middle x k sorted.ascending lt there q))) | inr ge ↦ let f : slice_get keys middle ≡ Some x = subst (λ n. slice_get keys n ≡ Some x) (omega arith) q in let g : k ≡ x = cc in ap is_lt (sym (ap (slice_cmp nat_cmp key) (sym g)) ∙ e) ];
+    after = λ j x le q. elim (lt_or middle j) [ inl lt ↦ ap is_lt (nat_list_cmp_total.trans key k x e (less _ (sorted_before keys j middle x k sorted.ascending lt there q))) | inr ge ↦ let f : slice_get keys middle ≡ Some x = subst (λ n. slice_get keys n ≡ Some x) (omega arith) q in let g : k ≡ x = cc in ap is_lt (ap (slice_cmp nat_cmp key) (sym g) ∙ e) ];
   }
-    where
-      less : {o : Ordering} → is_lt o ≡ true → o ≡ Less
-      less {Less} e = refl
-      less {Equal} e = absurd cc
-      less {Greater} e = absurd cc
 
   -- the key is after the one in the middle
   pub to_upper : slice_cmp nat_cmp key k ≡ Greater → Between keys key (middle + 1) high
   to_upper e = record {
     order = omega arith;
     within = b.within;
-    before = λ j x le q. elim (lt_or j middle) [ inl lt ↦ ap is_lt (nat_list_cmp_total.trans x k key (less (sorted_before keys middle j k x sorted.ascending lt q there)) turned) | inr ge ↦ let f : slice_get keys middle ≡ Some x = subst (λ n. slice_get keys n ≡ Some x) (omega arith) q in let g : k ≡ x = cc in ap is_lt (ap (λ y. slice_cmp nat_cmp y key) (sym g) ∙ turned) ];
+    before = λ j x le q. elim (lt_or j middle) [ inl lt ↦ ap is_lt (nat_list_cmp_total.trans x k key (less _ (sorted_before keys middle j k x sorted.ascending lt q there)) turned) | inr ge ↦ let f : slice_get keys middle ≡ Some x = subst (λ n. slice_get keys n ≡ Some x) (omega arith) q in let g : k ≡ x = cc in ap is_lt (ap (λ y. slice_cmp nat_cmp y key) (sym g) ∙ turned) ];
     after = b.after;
   }
     where
-      less : {o : Ordering} → is_lt o ≡ true → o ≡ Less
-      less {Less} e = refl
-      less {Equal} e = absurd cc
-      less {Greater} e = absurd cc
-
       turned : slice_cmp nat_cmp k key ≡ Less
       turned = nat_list_cmp_total.antisymm k key ∙ ap ordering_reverse e
 
