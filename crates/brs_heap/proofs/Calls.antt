@@ -1,6 +1,6 @@
 -- What single calls need of the laws.
 use Rattle.std.proofs.Common.{◌≡◌, ℕ, zero, suc, ◌+◌, ◌<◌, ◌≤◌, List, [], ◌∷◌, map, length, get_or, Option, Some, None, Result, Ok, Err, refl, sym, ap, ◌∙◌, subst, arith}
-use Rattle.std.specs.Prelude.{option_map, slice_get, slice_set, OnOk, OnSome, IfOk, IfSome, OnErr}
+use Rattle.std.specs.Prelude.{option_map, slice_get, slice_set, OnOk, OnSome, IfOk, IfSome, IfNone, OnErr}
 use Rattle.std.specs.List.{insert, remove}
 use Rattle.std.specs.List.Sorted.{IsStrictlySortedBy}
 use Rattle.std.specs.Ordering.{nat_cmp}
@@ -44,9 +44,9 @@ pub ok_or_same : {A E : Type 0} (r : Result A E) (cells cells' : m.Cells) (s : �
 ok_or_same (Ok x) cells cells' s W f sound h k = f h
 ok_or_same (Err x) cells cells' s W f sound h k = subst (λ d. IsSound d s) (sym k) sound
 
-pub some_or_same : {A : Type 0} (o : Option A) (cells cells' : m.Cells) (s : ℕ) (W : Type 0) → (W → IsSound cells' s) → IsSound cells s → OnSome o W → ((o ≡ None) → cells' ≡ cells) → IsSound cells' s
+pub some_or_same : {A : Type 0} (o : Option A) (cells cells' : m.Cells) (s : ℕ) (W : Type 0) → (W → IsSound cells' s) → IsSound cells s → OnSome o W → IfNone o (cells' ≡ cells) → IsSound cells' s
 some_or_same (Some x) cells cells' s W f sound h k = f h
-some_or_same None cells cells' s W f sound h k = subst (λ d. IsSound d s) (sym (k refl)) sound
+some_or_same None cells cells' s W f sound h k = subst (λ d. IsSound d s) (sym k) sound
 
 pub pairs_there : (slots : Slots) (k : ℕ) (x : Cell) (es : List (Entry Value)) → slot_at slots k ≡ Some x → content_of x.content ≡ Pairs es → slot_content (slot_at slots k) ≡ Some (Pairs es)
 pairs_there slots k x es t h = ap slot_content t ∙ ap (λ d. Some d) h

@@ -4,6 +4,9 @@ use Rattle.std.specs.Ordering.{nat_cmp, ordering_then}
 use Rattle.std.specs.declared.cmp.Ordering.{Ordering}
 use Rattle.std.specs.declared.cmp.Ordering.TheVariants.{Less, Equal, Greater}
 use Rattle.std.specs.Cmp.Lexicographic.{slice_cmp}
+use Rattle.std.specs.Char.{to_ascii_lowercase}
+use Rattle.std.proofs.lemmas.Grind.{common_steps}
+use Rattle.std.proofs.lemmas.Bool.Decides.{nat_tests}
 use Rattle.chan_values.specs.Folded.{folded, folded_byte}
 
 abbrev order : List ℕ → List ℕ → Ordering
@@ -80,7 +83,25 @@ order_at name key at x y h l e f =
     ∙ ap (λ n. ordering_then (nat_cmp n (get_or key at 0)) (order (drop (at + 1) (folded name)) (drop (at + 1) key))) (folded_at name at 0 h ∙ sym e)
     ∙ ap (λ n. ordering_then (nat_cmp x n) (order (drop (at + 1) (folded name)) (drop (at + 1) key))) (sym f)
 
-pub decides : (o p q : Ordering) → q ≡ ordering_then o p → (o ≡ Equal → ⊥) → q ≡ o
-decides Less p q e d = e
-decides Equal p q e d = absurd (d refl)
-decides Greater p q e d = e
+lower_is : (b : ℕ) → to_ascii_lowercase b ≡ folded_byte b
+lower_is b = grind (arith, common_steps, nat_tests)
+
+module _ (name key : List ℕ) (at : ℕ) (so_far : order (folded name) key ≡ order (drop at (folded name)) (drop at key)) where
+  pub longer : at < length name → length key ≤ at → Greater ≡ order (folded name) key
+  longer h l = sym (so_far ∙ ends_longer (folded name) key at (let q = folded_length name in omega arith) l)
+
+  pub shorter : length name ≤ at → at < length key → Less ≡ order (folded name) key
+  shorter l h = sym (so_far ∙ ends_shorter (folded name) key at (let q = folded_length name in omega arith) h)
+
+  module _ (x : ℕ) (o : Ordering) (h : at < length name) (l : at < length key) (lower : x ≡ to_ascii_lowercase (get_or name at 0)) (compared : o ≡ nat_cmp x (get_or key at 0)) where
+    step : order (folded name) key ≡ ordering_then o (order (drop (at + 1) (folded name)) (drop (at + 1) key))
+    step = so_far ∙ order_at name key at x (get_or key at 0) h l (lower ∙ lower_is (get_or name at 0)) refl ∙ ap (λ p. ordering_then p (order (drop (at + 1) (folded name)) (drop (at + 1) key))) (sym compared)
+
+    pub is_less : Less ≡ o → Less ≡ order (folded name) key
+    is_less e = sym (step ∙ ap (λ p. ordering_then p (order (drop (at + 1) (folded name)) (drop (at + 1) key))) (sym e))
+
+    pub is_greater : Greater ≡ o → Greater ≡ order (folded name) key
+    is_greater e = sym (step ∙ ap (λ p. ordering_then p (order (drop (at + 1) (folded name)) (drop (at + 1) key))) (sym e))
+
+    pub goes_on : Equal ≡ o → order (folded name) key ≡ order (drop (at + 1) (folded name)) (drop (at + 1) key)
+    goes_on e = step ∙ ap (λ p. ordering_then p (order (drop (at + 1) (folded name)) (drop (at + 1) key))) (sym e)

@@ -5,3 +5,4 @@ pub mod Growth
 pub mod Writing
 pub mod Comparing
 pub mod Calls
+pub mod MapCalls
