@@ -1,0 +1,4 @@
+pub mod Kind
+pub mod Content
+pub mod Slots
+pub mod Sound

@@ -1,0 +1,9 @@
+pub mod Values
+pub mod Keys
+pub mod Store
+pub mod Cells
+pub mod Stands
+pub mod Kept
+pub mod Heap
+pub mod Reading
+pub mod Framing
