@@ -1,5 +1,5 @@
 -- Loops that count their turns up, beside readings that count them down.
-use Rattle.std.proofs.Common.{◌≡◌, ℕ, suc, ◌+◌, ◌-◌, ◌<◌, true, false, cond, List, [], ◌∷◌, ◌++◌, Some, Option, refl, ap, ◌∙◌, arith}
+use Rattle.std.proofs.Common.{◌≡◌, ℕ, suc, ◌+◌, ◌-◌, ◌<◌, true, false, cond, List, [], ◌∷◌, ◌++◌, Some, Option, ap, ◌∙◌, arith}
 use Rattle.xml_pieces.specs.declared.piece.AttributeText.{AttributeText}
 use Rattle.xml_pieces.specs.declared.part.Part.{Part}
 use Rattle.xml_pieces.specs.Parts.{part_bytes}

@@ -7,7 +7,7 @@ use Rattle.xml_pieces.specs.declared.piece.Piece.TheVariants as piece
 use Rattle.xml_pieces.specs.Written as written
 use Rattle.xml_pieces.specs.Written.{close_of, is_space, is_name_byte, differs, strip, tag, EndsFirst, MayStop, MayPrecede, StandsFirst, IsWritten, spelled, piece_of, text_of, Written, Declaration, Comment, Section, Opening, Closing, Between, Cut}
 use Rattle.std.specs.Str.{is_utf8}
-use Rattle.xml_pieces.specs.Reading.{Parser, and_then, behind, some_of, either_mark, checked, until, text_until, text, closing, a_piece, pure}
+use Rattle.xml_pieces.specs.Reading.{and_then, behind, some_of, either_mark, checked, until, text_until, text, closing, a_piece, pure}
 use Rattle.xml_pieces.proofs.Basics.{and_parts, and_then_some, done, done_parts, Stops, some_again, some_taken, strip_again, strip_taken, mark_taken, mark_first, mark_other, checked_again, checked_taken}
 use Rattle.xml_pieces.proofs.Tags.{tag_shape, opening_again, opening_taken, closing_again, closing_taken}
 

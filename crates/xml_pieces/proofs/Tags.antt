@@ -1,5 +1,5 @@
 -- Tags and their attributes: what is written is read, and what is read was written so.
-use Rattle.std.proofs.Common.{◌≡◌, ℕ, zero, suc, ◌<◌, ◌≤◌, Bool, true, false, not, ◌==◌, inl, inr, List, [], ◌∷◌, ◌++◌, length, length-append, map, codes, Some, None, cond, refl, ap, sym, ◌∙◌, subst, append_assoc, append-nil, arith}
+use Rattle.std.proofs.Common.{◌≡◌, ℕ, zero, suc, ◌<◌, ◌≤◌, Bool, true, false, ◌==◌, inl, inr, List, [], ◌∷◌, ◌++◌, length, length-append, map, codes, Some, None, cond, refl, ap, sym, ◌∙◌, subst, append_assoc, append-nil, arith}
 use Rattle.std.specs.List.{list_all, flat_map}
 use Rattle.std.proofs.lemmas.Bool.{eqb-true, eq-eqb}
 use Rattle.xml_pieces.specs.declared.piece.AttributeText.{AttributeText}
@@ -8,8 +8,8 @@ use Rattle.xml_pieces.specs.declared.piece.Piece.{Piece}
 use Rattle.xml_pieces.specs.declared.piece.Piece.TheVariants as piece
 use Rattle.xml_pieces.specs.Written as written
 use Rattle.xml_pieces.specs.Written.{is_space, is_name_byte, is_attribute_byte, is_quote, differs, strip, is_empty, are_distinct, Stretch, stretch, meant, is_allowed, WrittenAttribute, IsAttribute, AreAttributes, attribute_of, WrittenTag, IsTag, tag, tag_of, close_of, opening_of}
-use Rattle.xml_pieces.specs.Reading.{Parser, and_then, bind, run, after, first, some_of, one, exactly, either_mark, text_at, checked, value_from, quoted, attribute, attributes_from, close, opening, closing}
-use Rattle.xml_pieces.proofs.Basics.{and_parts, and_both, or_parts, not_true, not_false, chosen, space_no_name, space_no_attribute, attribute_no_space, name_utf8, attribute_utf8, checked_again, checked_taken, and_then_some, bind_some, done, done_parts, Stops, stops_through, stops_at, run_again, after_again, run_whole, run_all, not_empty, some_again, some_taken, exactly_again, exactly_taken, mark_taken}
+use Rattle.xml_pieces.specs.Reading.{Parser, and_then, bind, run, after, first, some_of, one, exactly, either_mark, text_at, value_from, quoted, attribute, attributes_from, close, opening, closing}
+use Rattle.xml_pieces.proofs.Basics.{and_parts, or_parts, chosen, space_no_name, space_no_attribute, attribute_no_space, name_utf8, attribute_utf8, checked_taken, and_then_some, bind_some, done, done_parts, Stops, stops_through, stops_at, run_again, after_again, run_whole, run_all, not_empty, some_again, some_taken, exactly_again, exactly_taken, mark_taken}
 use Rattle.xml_pieces.proofs.Values.{value_again, value_taken}
 use Rattle.std.specs.Str.{is_utf8}
 

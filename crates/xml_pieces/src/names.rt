@@ -10,9 +10,7 @@ use chan_values::Text;
 fn has_name(attributes: &[AttributeText], name: &Text) -> bool
     ensures { result ≡ spec.has_name attributes.now name.now }
 {
-    attributes
-        .iter()
-        .any(|a| same(a.name.as_str().as_bytes(), name.as_str().as_bytes()))
+    attributes.iter().any(|a| same(a.name.as_str().as_bytes(), name.as_str().as_bytes()))
 }
 
 /// Whether no two attributes have one name.

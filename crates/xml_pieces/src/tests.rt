@@ -62,7 +62,11 @@ fn texts_are_cut_into_pieces(rt: HostRuntime) -> Result<(), Fail> {
         ("<a b='&amp'>", "!"),
         ("&#32;<a>", "tS"),
     ] {
-        assert_eq!(rt; kinds(rt.alloc(), text.as_bytes())?.as_str(), want, "{text}");
+        assert_eq!(rt;
+            kinds(rt.alloc(), text.as_bytes())?.as_str(),
+            want,
+            "{text}"
+        );
     }
     Ok(())
 }

@@ -1,5 +1,4 @@
 use Rattle.std.proofs.Common.{sym, arith}
-use Rattle.xml_pieces.specs.Reading.{radix}
 use Rattle.xml_pieces.proofs.Characters.{too_far}
 use Rattle.xml_pieces.proofs.texts.char_of.Goals as goal
 
