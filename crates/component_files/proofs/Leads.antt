@@ -13,7 +13,7 @@ use Rattle.component_files.specs.declared.state.Progress.{Progress}
 use Rattle.component_files.specs.declared.state.Progress.TheVariants.{Start, Inside}
 use Rattle.component_files.specs.Places.{after_byte, place_after}
 use Rattle.component_files.specs.Steps.{step, is_declaration, first_step, advance}
-use Rattle.component_files.specs.ComponentGrammar.{Mark, marks_of, marks, first_marks, text_marks, IsFile}
+use Rattle.component_files.specs.ComponentGrammar.{marks_of, marks, first_marks, text_marks, IsFile}
 use Rattle.component_files.proofs.Machine.{run, step_run, run_append, file_runs}
 use Rattle.component_files.proofs.Sound.{runs_file}
 

@@ -1,6 +1,6 @@
 -- The states that marks lead to, and the grammar.
 use Rattle.std.proofs.Common.{◌≡◌, ℕ, zero, suc, ◌+◌, ◌<◌, ◌≤◌, Bool, true, List, [], ◌∷◌, ◌++◌, length, codes, Some, None, Option, cond, refl, ap, sym, ◌∙◌, subst, append_assoc, append-nil, arith, lit≤}
-use Rattle.std.specs.Prelude.{nat_eq, nat_lt, ◌&&◌}
+use Rattle.std.specs.Prelude.{nat_eq, nat_lt}
 use Rattle.xml_pieces.specs.declared.piece.Tag.{Tag}
 use Rattle.xml_pieces.specs.declared.piece.Piece.{Piece}
 use Rattle.xml_pieces.specs.declared.piece.Piece.TheVariants as piece
@@ -11,8 +11,6 @@ use borrow.Author.Tests.{lt-ltb}
 use Rattle.component_files.specs.declared.place.Place.{Place}
 use Rattle.component_files.specs.declared.element.ComponentFile.{ComponentFile}
 use Rattle.component_files.specs.declared.element.InlineScript.{InlineScript}
-use Rattle.component_files.specs.declared.element.FunctionElement.{FunctionElement}
-use Rattle.component_files.specs.declared.element.FieldElement.{FieldElement}
 use Rattle.component_files.specs.declared.element.ChildElement.{ChildElement}
 use Rattle.component_files.specs.declared.stack.OpenChild.{OpenChild}
 use Rattle.component_files.specs.declared.state.State.{State}

@@ -8,8 +8,6 @@ use borrow.Author.Tests.{ltb-true}
 use Rattle.component_files.specs.declared.place.Place.{Place}
 use Rattle.component_files.specs.declared.element.ComponentFile.{ComponentFile}
 use Rattle.component_files.specs.declared.element.InlineScript.{InlineScript}
-use Rattle.component_files.specs.declared.element.FunctionElement.{FunctionElement}
-use Rattle.component_files.specs.declared.element.FieldElement.{FieldElement}
 use Rattle.component_files.specs.declared.element.ScriptElement.{ScriptElement}
 use Rattle.component_files.specs.declared.element.ChildElement.{ChildElement}
 use Rattle.component_files.specs.declared.stack.OpenChild.{OpenChild}
@@ -19,7 +17,7 @@ use Rattle.component_files.specs.declared.state.MemberKind.{MemberKind}
 use Rattle.component_files.specs.declared.state.MemberKind.TheVariants as kind
 use Rattle.component_files.specs.Elements.{same, alike, header, field, function, script, is_whole, are_unlike, child, opening_child}
 use Rattle.component_files.specs.Steps.{with_child, opened_part, opened_member, member_name, shut, closes, added}
-use Rattle.component_files.specs.ComponentGrammar.{Mark, Open, Close, Data, Wrong, fits, Each, IsEmpty, Member, Field, Function, Members, with_member, with_members, Child, Part, Interface, Script, Children, Parts, with_parts, IsFile}
+use Rattle.component_files.specs.ComponentGrammar.{Mark, Open, Close, Data, Wrong, fits, Each, Member, Field, Function, Members, with_member, with_members, Child, Part, Interface, Script, Children, Parts, with_parts, IsFile}
 use Rattle.component_files.proofs.Machine.{closed, move, run}
 
 -- elements one after another, a closing mark, and more

@@ -1,5 +1,5 @@
 -- From each state that is reached some pieces lead to the end.
-use Rattle.std.proofs.Common.{◌≡◌, ℕ, ◌+◌, Bool, true, false, inl, inr, List, [], ◌∷◌, ◌++◌, length, codes, Some, None, Option, cond, refl, ap, sym, ◌∙◌, subst, append_assoc, append-nil, arith}
+use Rattle.std.proofs.Common.{◌≡◌, ℕ, Bool, true, false, inl, inr, List, [], ◌∷◌, ◌++◌, length, codes, Some, None, Option, cond, refl, ap, sym, ◌∙◌, subst, append_assoc, append-nil, arith}
 use Rattle.std.specs.Prelude.{nat_eq, ◌<◌, ◌||◌, is_some}
 use Rattle.std.specs.List.{flat_map, list_all}
 use Rattle.std.specs.Str.{bytes_eq, is_utf8, str_to_ascii_lowercase}
@@ -14,16 +14,15 @@ use Rattle.component_files.specs.declared.element.InlineScript.{InlineScript}
 use Rattle.component_files.specs.declared.element.ChildElement.{ChildElement}
 use Rattle.component_files.specs.declared.element.ScriptElement.{ScriptElement}
 use Rattle.component_files.specs.declared.stack.OpenChild.{OpenChild}
-use Rattle.component_files.specs.declared.state.MemberKind.{MemberKind}
 use Rattle.component_files.specs.declared.state.MemberKind.TheVariants as kind
 use Rattle.component_files.specs.declared.state.State.{State}
 use Rattle.component_files.specs.declared.state.State.TheVariants as state
 use Rattle.component_files.specs.declared.state.Progress.{Progress}
-use Rattle.component_files.specs.declared.state.Progress.TheVariants.{Start, Inside}
+use Rattle.component_files.specs.declared.state.Progress.TheVariants.{Start}
 use Rattle.component_files.specs.Places.{place_after}
 use Rattle.component_files.specs.Elements.{same, alike, header, needed, field, function, script, is_whole, child, opening_child}
 use Rattle.component_files.specs.Steps.{with_child, opened_part, opened_member, member_name, opened, shut, closes, added, with_data, is_declaration}
-use Rattle.component_files.specs.ComponentGrammar.{Mark, Open, Close, Data, Wrong, marks_of, marks, first_marks, text_marks, Begins}
+use Rattle.component_files.specs.ComponentGrammar.{Mark, Open, Close, Data, Wrong, marks_of, marks, text_marks, Begins}
 use Rattle.component_files.proofs.Machine.{move, run, same_moves, runs_on}
 use Rattle.component_files.proofs.Sound.{runs_file}
 use Rattle.component_files.proofs.Leads.{text_append, leads, led_marks}

@@ -1,9 +1,8 @@
 -- Each text has one answer.
 use Rattle.std.proofs.Common.{◌≡◌, ℕ, List, length, Result, Ok, Err, ◌⊎◌, inl, inr, refl, sym, ◌∙◌}
-use Rattle.component_files.specs.declared.place.Place.{Place}
 use Rattle.component_files.specs.declared.element.ComponentFile.{ComponentFile}
 use Rattle.component_files.specs.declared.state.Progress.TheVariants.{Start}
-use Rattle.component_files.specs.ComponentGrammar.{IsText, IsFirstFaultOf, IsComponent, IsFirstFault, start_of_file, text_of_file}
+use Rattle.component_files.specs.ComponentGrammar.{IsComponent, IsFirstFault, start_of_file, text_of_file}
 use Rattle.component_files.specs.Scan.{scan}
 use Rattle.component_files.proofs.Top.{found, right, faulty, fault_found}
 

@@ -1,5 +1,5 @@
 -- The grammar of component files: a relation between the marks of a text and a component file.
-use Rattle.std.specs.Prelude.{◌≡◌, ℕ, zero, suc, ◌+◌, Bool, true, if◌then◌else◌, List, [], ◌∷◌, ◌++◌, codes, Some, None, Option}
+use Rattle.std.specs.Prelude.{◌≡◌, ℕ, zero, suc, Bool, true, if◌then◌else◌, List, [], ◌∷◌, ◌++◌, codes, Some, None, Option}
 use Rattle.std.specs.List.{flat_map}
 use Rattle.xml_pieces.specs.declared.piece.Tag.{Tag}
 use Rattle.xml_pieces.specs.declared.piece.Piece.{Piece}

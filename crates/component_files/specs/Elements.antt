@@ -1,6 +1,6 @@
 -- What the tags of a component file say.
-use Rattle.std.specs.Prelude.{◌≡◌, ℕ, Bool, true, false, not, ◌||◌, ◌&&◌, ◌==◌, if◌then◌else◌, List, [], ◌∷◌, ◌++◌, codes, Some, None, Option, is_some}
-use Rattle.std.specs.List.{list_any, filter}
+use Rattle.std.specs.Prelude.{ℕ, Bool, true, false, not, ◌||◌, ◌&&◌, ◌==◌, if◌then◌else◌, List, [], ◌∷◌, codes, Some, None, Option, is_some}
+use Rattle.std.specs.List.{list_any}
 use Rattle.std.specs.Str.{bytes_eq, str_eq_ignore_ascii_case}
 use Rattle.xml_pieces.specs.declared.piece.AttributeText.{AttributeText}
 use Rattle.xml_pieces.specs.declared.piece.Tag.{Tag}

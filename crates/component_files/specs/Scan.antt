@@ -1,10 +1,9 @@
 -- Reading a component file piece by piece, with the line of the first piece that leads nowhere.
-use Rattle.std.specs.Prelude.{◌≡◌, ℕ, zero, suc, ◌-◌, if◌then◌else◌, List, length, take, Some, None, Option, Result, Ok, Err}
-use Rattle.xml_pieces.specs.Written.{is_empty, strip}
+use Rattle.std.specs.Prelude.{◌≡◌, ℕ, zero, suc, ◌-◌, if◌then◌else◌, List, length, take, Some, None, Result, Ok, Err}
+use Rattle.xml_pieces.specs.Written.{is_empty}
 use Rattle.xml_pieces.specs.Reading.{Outcome, and_then, bind, a_piece}
 use Rattle.component_files.specs.declared.place.Place.{Place}
 use Rattle.component_files.specs.declared.element.ComponentFile.{ComponentFile}
-use Rattle.component_files.specs.declared.state.State.{State}
 use Rattle.component_files.specs.declared.state.State.TheVariants as state
 use Rattle.component_files.specs.declared.state.Progress.{Progress}
 use Rattle.component_files.specs.declared.state.Progress.TheVariants.{Start, Inside}

@@ -1,5 +1,5 @@
 -- What the pieces of a component file lead to, piece by piece.
-use Rattle.std.specs.Prelude.{◌≡◌, ℕ, Bool, true, false, ◌&&◌, nat_lt, if◌then◌else◌, List, [], ◌∷◌, ◌++◌, length, codes, Some, None, Option}
+use Rattle.std.specs.Prelude.{ℕ, Bool, true, false, ◌&&◌, nat_lt, if◌then◌else◌, List, [], ◌∷◌, ◌++◌, length, codes, Some, None, Option}
 use Rattle.xml_pieces.specs.declared.piece.Tag.{Tag}
 use Rattle.xml_pieces.specs.declared.piece.Piece.{Piece}
 use Rattle.xml_pieces.specs.declared.piece.Piece.TheVariants as piece

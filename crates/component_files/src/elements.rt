@@ -88,11 +88,7 @@ pub(crate) fn field(alloc: Global, tag: &Tag, place: Place) -> Result<FieldEleme
 
 /// What a function's tag says.
 #[tactic(auto, unfolding(crate::specs::Elements::function))]
-pub(crate) fn function(
-    alloc: Global,
-    tag: &Tag,
-    place: Place,
-) -> Result<FunctionElement, ReadError>
+pub(crate) fn function(alloc: Global, tag: &Tag, place: Place) -> Result<FunctionElement, ReadError>
     ensures { Answers (spec.function tag.now place) result }
 {
     let name = needed(alloc, tag.attributes.as_slice(), b"name")?;

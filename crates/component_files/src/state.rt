@@ -265,11 +265,7 @@ fn end_member(file: ComponentFile, kind: MemberKind, name: &Text) -> Result<Stat
     }
 }
 
-fn end_script(
-    file: ComponentFile,
-    script: ScriptElement,
-    name: &Text,
-) -> Result<State, ReadError>
+fn end_script(file: ComponentFile, script: ScriptElement, name: &Text) -> Result<State, ReadError>
     ensures { Answers (spec.ended (State.Script file script) name.now) result }
 {
     if same(b"script", name.as_str().as_bytes()) {

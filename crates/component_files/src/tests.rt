@@ -45,11 +45,17 @@ fn whole_files_have_their_first_fault(rt: HostRuntime) -> Result<(), Fail> {
         (b"<component name='x'/>\n".as_slice(), 0),
         (b"<component name='x'>\r\n".as_slice(), 2),
         (b"<?xml?><?xml?>".as_slice(), 1),
-        (b"<?xml version=\"1.0\"?>\n<component name='x'/>".as_slice(), 0),
+        (
+            b"<?xml version=\"1.0\"?>\n<component name='x'/>".as_slice(),
+            0,
+        ),
         (b"\n<?xml?><component name='x'/>".as_slice(), 2),
         (b"<!-- -- -->\n<?xml?>".as_slice(), 2),
         (b"\xef\xbb\xbf<?xml?><component name='x'/>".as_slice(), 0),
-        (b"\xef\xbb\xbf\xef\xbb\xbf<component name='x'/>".as_slice(), 1),
+        (
+            b"\xef\xbb\xbf\xef\xbb\xbf<component name='x'/>".as_slice(),
+            1,
+        ),
         (b"\n<!DOCTYPE x>".as_slice(), 2),
         (b"\n<?pi?>".as_slice(), 2),
         (b"\n<!--->".as_slice(), 2),
@@ -65,7 +71,10 @@ fn whole_files_have_their_first_fault(rt: HostRuntime) -> Result<(), Fail> {
         (b"<component name='x' name='y'/>".as_slice(), 1),
         (b"<component name='x' Name='y' extends=''/>".as_slice(), 0),
         (b"<component name='x'>\n</Component>".as_slice(), 2),
-        (b"<component name='x'/>\n<component name='y'/>".as_slice(), 2),
+        (
+            b"<component name='x'/>\n<component name='y'/>".as_slice(),
+            2,
+        ),
         (b"<component name='x'/>\n\ny".as_slice(), 1),
     ] {
         assert_eq!(rt; fault_line(rt.alloc(), text)?, line);
@@ -80,13 +89,25 @@ fn parts_have_their_first_fault(rt: HostRuntime) -> Result<(), Fail> {
         ("\n<!-- -->&#32;", 2),
         ("\n<![CDATA[]]>", 2),
         ("\n<field id='a' type='b'/>", 2),
-        ("<interface><field id='a' type='b'/></interface><interface/>", 0),
+        (
+            "<interface><field id='a' type='b'/></interface><interface/>",
+            0,
+        ),
         ("<interface>\n<field id='a'/>", 2),
         ("<interface>\n<field id='' type='b'/>", 2),
         ("<interface>\n<field id='a' type='b' alias='c.d'/>", 2),
-        ("<interface><field id='a' type='b' Alias='c' ID='d' value=''/></interface>", 0),
-        ("<interface><field id='a' type='b' alwaysNotify='true' onChange=''/></interface>", 0),
-        ("<interface>\n<field id='a' type='b' alwaysNotify='TRUE'/>", 2),
+        (
+            "<interface><field id='a' type='b' Alias='c' ID='d' value=''/></interface>",
+            0,
+        ),
+        (
+            "<interface><field id='a' type='b' alwaysNotify='true' onChange=''/></interface>",
+            0,
+        ),
+        (
+            "<interface>\n<field id='a' type='b' alwaysNotify='TRUE'/>",
+            2,
+        ),
         ("<interface>\n<field id='a' type='b' alwaysNotify=''/>", 2),
         ("<interface><field id='a' type='b'>\n<field", 2),
         ("<interface><function name='f'></function></interface>", 0),
@@ -128,13 +149,17 @@ fn children_nest_64_deep(rt: HostRuntime) -> Result<(), Fail> {
 
 #[test]
 fn a_component_has_its_tags_texts_and_places(rt: HostRuntime) -> Result<(), Fail> {
-    let text = b"\xef\xbb\xbf<component name=\"Main\">\r\n <interface><field id=\"a\" type=\"string\" alwaysNotify=\"true\" value=\"&lt;\t&#65;\"/>\n<function name='f'/></interface></component>";
+    let text =
+        b"\xef\xbb\xbf<component name=\"Main\">\r\n <interface><field id=\"a\" type=\"string\" alwaysNotify=\"true\" value=\"&lt;\t&#65;\"/>\n<function name='f'/></interface></component>";
     let file = file_of(rt.alloc(), text)?;
     may_be_shared(&file);
     assert_eq!(rt; file.name.as_str(), "Main");
     assert_eq!(rt; file.extends.as_str(), "Group");
     assert_eq!(rt; (file.line, file.column), (1, 4));
-    assert_eq!(rt; (file.fields.len(), file.functions.len(), file.children.len()), (1, 1, 0));
+    assert_eq!(rt;
+        (file.fields.len(), file.functions.len(), file.children.len()),
+        (1, 1, 0)
+    );
     let field = file.fields.get(0).ok_or("no field")?;
     assert_eq!(rt; field.id.as_str(), "a");
     assert_eq!(rt; field.word.as_str(), "string");
@@ -152,7 +177,8 @@ fn a_component_has_its_tags_texts_and_places(rt: HostRuntime) -> Result<(), Fail
 
 #[test]
 fn scripts_and_children_have_their_texts_and_places(rt: HostRuntime) -> Result<(), Fail> {
-    let text = b"<component name='x' extends='Scene'>\n<script><![CDATA[\nprint 1\n]]></script>\n<children><Label text='a\nb' x:y=''> <Group/></label></children></component>";
+    let text =
+        b"<component name='x' extends='Scene'>\n<script><![CDATA[\nprint 1\n]]></script>\n<children><Label text='a\nb' x:y=''> <Group/></label></children></component>";
     let file = file_of(rt.alloc(), text)?;
     assert_eq!(rt; file.extends.as_str(), "Scene");
     let script = file.scripts.get(0).ok_or("no script")?;
