@@ -97,7 +97,7 @@ fn outcome_of<R: Threads + Abort>(
     let mut files = folder(rt, alloc, contents, failing.files)?;
     let mut input = MemorySource::new(bytes_of(alloc, script)?, calls(alloc, failing.input)?);
     let mut out = MemorySink::new(alloc, calls(alloc, failing.sink)?);
-    let mut door = MemoryDoor::new(calls(alloc, None)?, calls(alloc, None)?);
+    let mut door = MemoryDoor::new(alloc, calls(alloc, None)?, calls(alloc, None)?);
     let status = channel_main(
         rt, alloc, &spelled, &mut files, &mut input, &mut out, &mut door,
     );
