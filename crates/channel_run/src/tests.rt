@@ -193,7 +193,9 @@ fn a_first_form_writes_its_transcript(rt: HostRuntime) -> Result<(), Fail> {
 }
 
 #[test]
-fn for_other_folders_the_script_is_read_and_nothing_is_written(rt: HostRuntime) -> Result<(), Fail> {
+fn for_other_folders_the_script_is_read_and_nothing_is_written(
+    rt: HostRuntime,
+) -> Result<(), Fail> {
     let alloc = rt.alloc();
     let manifest = ("F/manifest", "title=a\n");
     let main = ("F/source/main.brs", EMPTY);
@@ -255,7 +257,11 @@ fn a_bad_line_or_a_key_ends_what_is_written(rt: HostRuntime) -> Result<(), Fail>
         ("round 9\nkey up press\nround 9\n", "not yet", print),
         ("round 10\nkey Lit_%C3%A9 release\n", "not yet", ended),
         ("key OK press", "not yet", ""),
-        ("round 9\nkey up press\nround 9\nx", "bad script line 4", print),
+        (
+            "round 9\nkey up press\nround 9\nx",
+            "bad script line 4",
+            print,
+        ),
     ] {
         let outcome = outcome_of(&rt, alloc, "run|F|100", &contents, script, NONE)?;
         assert_eq!(rt; outcome.text.as_str(), text, "{script}");

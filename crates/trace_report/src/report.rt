@@ -86,7 +86,10 @@ fn line_text(alloc: Global, line: &ReportLine<'_>) -> Result<String, AllocError>
         } => {
             let kind = escaped(alloc, kind)?;
             let (parent, children) = (Parent(*parent), Children(children));
-            format!(in alloc; "node {node} {} owner {owner} parent {parent} children{children}\n", kind.as_str())
+            format!(in alloc;
+                "node {node} {} owner {owner} parent {parent} children{children}\n",
+                kind.as_str()
+            )
         }
         ReportLine::Field { node, id, value } => {
             let id = escaped(alloc, id)?;
@@ -97,11 +100,7 @@ fn line_text(alloc: Global, line: &ReportLine<'_>) -> Result<String, AllocError>
 }
 
 /// Writes a line at the end, with the LF that ends it. After an `Err` nothing has changed.
-pub fn write_report(
-    alloc: Global,
-    line: &ReportLine<'_>,
-    out: &mut Vec<u8>,
-) -> Result<(), NoMemory>
+pub fn write_report(alloc: Global, line: &ReportLine<'_>, out: &mut Vec<u8>) -> Result<(), NoMemory>
     ensures ok { OnOk result (out.new.items ≡ out.old.items ++ report_text line.now) }
     ensures err { OnErr result (out.new.items ≡ out.old.items) }
 {

@@ -14,7 +14,10 @@ use std::alloc::{AllocError, Global};
 #[derive(Clone, Copy, Debug)]
 pub enum TraceLine<'a> {
     /// `a print T`: the actor printed a text.
-    Print { actor: u32, text: &'a str },
+    Print {
+        actor: u32,
+        text: &'a str,
+    },
     /// `a error k path:line`: an error came in the actor, at a line counted from 1.
     Error {
         actor: u32,
@@ -23,17 +26,28 @@ pub enum TraceLine<'a> {
         line: u32,
     },
     /// `a post i`: the actor posted its i-th access, counted from 1. A task's last entry counts too.
-    Post { actor: u32, number: u64 },
+    Post {
+        actor: u32,
+        number: u64,
+    },
     /// `0 begin E`: the render thread begins an entry.
     Begin(EntryName),
     /// `0 end E`: the render thread is through with an entry.
     End(EntryName),
     /// `0 drop a.i`: an entry of a stopped task is dropped.
-    Dropped { actor: u32, number: u64 },
+    Dropped {
+        actor: u32,
+        number: u64,
+    },
     /// `0 stop a`: the render thread stops a task.
-    Stop { actor: u32 },
+    Stop {
+        actor: u32,
+    },
     /// `a start node`: a task node's actor starts.
-    Start { actor: u32, node: u32 },
+    Start {
+        actor: u32,
+        node: u32,
+    },
     /// `0 notify node.field to`: an observer is told of a change. The field's id is folded.
     Notify {
         node: u32,
@@ -48,7 +62,9 @@ pub enum TraceLine<'a> {
         handled: bool,
     },
     /// `a ended`: the function of the main actor or of a task returned.
-    Ended { actor: u32 },
+    Ended {
+        actor: u32,
+    },
     /// `end reason`: the run is over. It is the last line.
     RunEnd(EndReason),
 }
@@ -115,11 +131,7 @@ fn line_bytes(alloc: Global, line: &TraceLine<'_>) -> Result<Vec<u8>, AllocError
 }
 
 /// Writes a line at the end, with the LF that ends it. After an `Err` nothing has changed.
-pub fn write_trace(
-    alloc: Global,
-    line: &TraceLine<'_>,
-    out: &mut Vec<u8>,
-) -> Result<(), NoMemory>
+pub fn write_trace(alloc: Global, line: &TraceLine<'_>, out: &mut Vec<u8>) -> Result<(), NoMemory>
     ensures ok { OnOk result (out.new.items ≡ out.old.items ++ trace_text line.now) }
     ensures err { OnErr result (out.new.items ≡ out.old.items) }
 {
