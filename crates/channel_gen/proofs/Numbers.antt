@@ -1,5 +1,5 @@
 -- What is made of one number after another.
-use Rattle.std.proofs.Common.{◌≡◌, ℕ, zero, suc, ◌+◌, ◌-◌, ◌≤◌, List, [], ◌∷◌, ◌++◌, refl, sym, ap, ◌∙◌, subst, arith, add-one, append_assoc}
+use Rattle.std.proofs.Common.{◌≡◌, ℕ, zero, suc, ◌+◌, ◌-◌, ◌≤◌, List, [], ◌∷◌, ◌++◌, sym, ap, ◌∙◌, arith, append_assoc}
 use Rattle.std.specs.Prelude.{fold, flat_map, codes, Result, Ok, Err, OnOk}
 use Rattle.std.specs.List.{range_with_len}
 use Rattle.std.proofs.lemmas.Grind.{flat_map-append}
@@ -31,9 +31,6 @@ flat_to f k size is = ap (λ n. flat_map f (numbers_to n)) (omega (arith, is))
 
 -- ---- the calls of main
 
-pub text_none : (head : List ℕ) (k : ℕ) → k ≡ 1 → head ≡ head ++ flat_map call_text (numbers_to (k - 1))
-text_none head k is = sym (append-nil head) ∙ ap (λ n. head ++ flat_map call_text (numbers_to (n - 1))) (sym is)
-
 pub text_more : (head old new : List ℕ) (k : ℕ) → old ≡ head ++ flat_map call_text (numbers_to (k - 1)) → new ≡ old ++ call_text k → 1 ≤ k
     → new ≡ head ++ flat_map call_text (numbers_to ((k + 1) - 1))
 text_more head old new k before after h =
@@ -47,9 +44,6 @@ text_all head text k size is end = is ∙ ap (λ l. head ++ l) (flat_to call_tex
 
 abbrev with_all : List FileBytes → ℕ → List FileBytes
 with_all files n = fold with_file files (flat_map files_of (numbers_to n))
-
-pub files_none : (files : List FileBytes) (k : ℕ) → k ≡ 1 → files ≡ fold with_file files (flat_map files_of (numbers_to (k - 1)))
-files_none files k is = ap (λ n. with_all files (n - 1)) (sym is)
 
 pub files_more : (head old new : List FileBytes) (k : ℕ) → old ≡ fold with_file head (flat_map files_of (numbers_to (k - 1)))
     → new ≡ fold with_file old (files_of k) → 1 ≤ k → new ≡ fold with_file head (flat_map files_of (numbers_to ((k + 1) - 1)))

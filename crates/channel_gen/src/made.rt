@@ -1,6 +1,6 @@
 //! The made channel whole.
-ghost use Rattle.std.specs.Prelude.{◌≡◌, ◌++◌, ◌+◌, ◌<◌, ◌≤◌, IfOk, OnOk, fold, flat_map};
-ghost use Rattle.channel_gen.specs.MadeChannel.{numbers_to, made_files, made_script, files_of, with_file, manifest, main_file};
+ghost use Rattle.std.specs.Prelude.{◌≡◌, ◌≤◌, IfOk, OnOk, fold, flat_map};
+ghost use Rattle.channel_gen.specs.MadeChannel.{numbers_to, made_files, made_script, files_of, with_file};
 
 use crate::files::{add_component, add_function, add_main, add_manifest};
 use chan_values::{Bytes, NoMemory};
