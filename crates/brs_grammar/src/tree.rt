@@ -126,7 +126,15 @@ pub enum Statement {
     /// The first arm, the further arms in order, and the block behind `else`.
     BlockIf(BlockArm, Items<BlockArm>, Option<Items<Statement>>),
     /// The place of `for`, the variable, the start, the end, the step, and the block.
-    For(Place, Name, Expression, Expression, Option<Expression>, Items<Statement>),
+    /// The three expressions are boxed, since they would make each statement of a block more than twice as large.
+    For(
+        Place,
+        Name,
+        Boxed<Expression>,
+        Boxed<Expression>,
+        Option<Boxed<Expression>>,
+        Items<Statement>,
+    ),
     /// The place of `for`, the variable, what is gone over, and the block.
     ForEach(Place, Name, Expression, Items<Statement>),
     While(Place, Expression, Items<Statement>),
@@ -203,6 +211,7 @@ pub struct Expression {
     pub more: Items<OrPart>,
 }
 
+/// A further operand of a chain of `or`, with the place of the operator.
 #[cycle(tree)]
 #[derive(Drop)]
 pub struct OrPart {
@@ -218,6 +227,7 @@ pub struct Conjunction {
     pub more: Items<AndPart>,
 }
 
+/// A further operand of a chain of `and`, with the place of the operator.
 #[cycle(tree)]
 #[derive(Drop)]
 pub struct AndPart {
@@ -241,6 +251,7 @@ pub struct Comparison {
     pub more: Items<ComparisonPart>,
 }
 
+/// A further operand of a chain of comparisons, with its operator and the place of that.
 #[cycle(tree)]
 #[derive(Drop)]
 pub struct ComparisonPart {
@@ -257,6 +268,7 @@ pub struct Shift {
     pub more: Items<ShiftPart>,
 }
 
+/// A further operand of a chain of `<<` and `>>`, with its operator and the place of that.
 #[cycle(tree)]
 #[derive(Drop)]
 pub struct ShiftPart {
@@ -273,6 +285,7 @@ pub struct Sum {
     pub more: Items<SumPart>,
 }
 
+/// A further operand of a chain of `+` and `-`, with its operator and the place of that.
 #[cycle(tree)]
 #[derive(Drop)]
 pub struct SumPart {
@@ -289,6 +302,7 @@ pub struct Product {
     pub more: Items<ProductPart>,
 }
 
+/// A further operand of a chain of `*`, `\` and `mod`, with its operator and the place of that.
 #[cycle(tree)]
 #[derive(Drop)]
 pub struct ProductPart {

@@ -47,6 +47,7 @@ pub fn newlines(alloc: Global, tokens: &mut Cursor<'_, '_>) -> Result<Items<()>,
     )
 }
 
+/// A comma, and line ends behind it.
 #[tactic(auto, unfolding(brs_grammar::specs::ReadLeaves::comma_gap))]
 fn comma_gap<A: Drop>(alloc: Global, tokens: &mut Cursor<'_, '_>) -> Result<Items<A>, ParseError>
     ensures { Reads (spec.comma_gap tokens.old) result tokens.new }
@@ -56,6 +57,7 @@ fn comma_gap<A: Drop>(alloc: Global, tokens: &mut Cursor<'_, '_>) -> Result<Item
     Ok(Items::new(alloc))
 }
 
+/// Line ends, and a comma with line ends behind it where one follows.
 #[tactic(auto, unfolding(brs_grammar::specs::ReadLeaves::newline_gap, grammar_rules::specs::Words::same_word))]
 fn newline_gap<A: Drop>(alloc: Global, tokens: &mut Cursor<'_, '_>) -> Result<Items<A>, ParseError>
     ensures { Reads (spec.newline_gap tokens.old) result tokens.new }
@@ -111,6 +113,7 @@ pub fn end_sub<'a>(tokens: &mut Cursor<'_, 'a>) -> Result<Token<'a>, ParseError>
 
 // ---- primary expressions without parts
 
+/// A number literal.
 #[tactic(auto, unfolding(brs_grammar::specs::ReadLeaves::number))]
 pub fn number(alloc: Global, tokens: &mut Cursor<'_, '_>) -> Result<Primary, ParseError>
     ensures { Reads (spec.number tokens.old) result tokens.new }
@@ -120,6 +123,7 @@ pub fn number(alloc: Global, tokens: &mut Cursor<'_, '_>) -> Result<Primary, Par
     Ok(Primary::Number(place_of(&token), digits))
 }
 
+/// A text literal.
 #[tactic(auto, unfolding(brs_grammar::specs::ReadLeaves::text))]
 pub fn text(alloc: Global, tokens: &mut Cursor<'_, '_>) -> Result<Primary, ParseError>
     ensures { Reads (spec.text tokens.old) result tokens.new }
@@ -129,6 +133,7 @@ pub fn text(alloc: Global, tokens: &mut Cursor<'_, '_>) -> Result<Primary, Parse
     Ok(Primary::Text(place_of(&token), quoted))
 }
 
+/// The literal `true`.
 #[tactic(auto, unfolding(brs_grammar::specs::ReadLeaves::true_))]
 pub fn true_value(tokens: &mut Cursor<'_, '_>) -> Result<Primary, ParseError>
     ensures { Reads (spec.true_ tokens.old) result tokens.new }
@@ -137,6 +142,7 @@ pub fn true_value(tokens: &mut Cursor<'_, '_>) -> Result<Primary, ParseError>
     Ok(Primary::True(place_of(&token)))
 }
 
+/// The literal `false`.
 #[tactic(auto, unfolding(brs_grammar::specs::ReadLeaves::false_))]
 pub fn false_value(tokens: &mut Cursor<'_, '_>) -> Result<Primary, ParseError>
     ensures { Reads (spec.false_ tokens.old) result tokens.new }
@@ -145,6 +151,7 @@ pub fn false_value(tokens: &mut Cursor<'_, '_>) -> Result<Primary, ParseError>
     Ok(Primary::False(place_of(&token)))
 }
 
+/// The literal `invalid`.
 #[tactic(auto, unfolding(brs_grammar::specs::ReadLeaves::invalid))]
 pub fn invalid(tokens: &mut Cursor<'_, '_>) -> Result<Primary, ParseError>
     ensures { Reads (spec.invalid tokens.old) result tokens.new }
@@ -153,6 +160,7 @@ pub fn invalid(tokens: &mut Cursor<'_, '_>) -> Result<Primary, ParseError>
     Ok(Primary::Invalid(place_of(&token)))
 }
 
+/// The name of a variable.
 #[tactic(auto, unfolding(brs_grammar::specs::ReadLeaves::variable))]
 pub fn variable(alloc: Global, tokens: &mut Cursor<'_, '_>) -> Result<Primary, ParseError>
     ensures { Reads (spec.variable tokens.old) result tokens.new }
@@ -164,6 +172,7 @@ pub fn variable(alloc: Global, tokens: &mut Cursor<'_, '_>) -> Result<Primary, P
 
 // ---- keys and members
 
+/// A name or keyword as a key.
 #[tactic(auto, unfolding(brs_grammar::specs::ReadLeaves::word_key))]
 fn word_key(alloc: Global, tokens: &mut Cursor<'_, '_>) -> Result<Key, ParseError>
     ensures { Reads (spec.word_key tokens.old) result tokens.new }
@@ -173,6 +182,7 @@ fn word_key(alloc: Global, tokens: &mut Cursor<'_, '_>) -> Result<Key, ParseErro
     Ok(Key::Word(name))
 }
 
+/// A text in quotes as a key.
 #[tactic(auto, unfolding(brs_grammar::specs::ReadLeaves::quoted_key))]
 fn quoted_key(alloc: Global, tokens: &mut Cursor<'_, '_>) -> Result<Key, ParseError>
     ensures { Reads (spec.quoted_key tokens.old) result tokens.new }

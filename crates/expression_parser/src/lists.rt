@@ -13,7 +13,7 @@ use brs_grammar::tree::{Expression, Pair};
 use grammar_rules::{Word, same_word};
 use sqlite_items::Items;
 use std::alloc::Global;
-use token_cursor::{Cursor, ParseError, many, trail};
+use token_cursor::{Cursor, Held, ParseError, many, prepend, trail};
 
 impl<F: Fn(Global, &mut Cursor<'_, '_>, usize, Part) -> Result<Inner, ParseError>> Level<F> {
     #[tactic(auto, unfolding(brs_grammar::specs::ReadExpressions::next_argument))]
@@ -44,11 +44,9 @@ impl<F: Fn(Global, &mut Cursor<'_, '_>, usize, Part) -> Result<Inner, ParseError
         requires { Nests self.now.depth (F.pre self.now.inside) (F.post self.now.inside) }
         ensures { Reads (at spec.some_arguments self.now.depth tokens.old) result tokens.new }
     {
-        let first = self.expression(tokens)?;
-        let mut all = Items::new(self.alloc);
-        all.push(first)?;
+        let first = Held::new(self.expression(tokens)?);
         let more = self.next_arguments(tokens)?;
-        all.append(more)?;
+        let all = prepend(self.alloc, Some(first.into_inner()), more)?;
         Ok(all)
     }
 
@@ -97,11 +95,9 @@ impl<F: Fn(Global, &mut Cursor<'_, '_>, usize, Part) -> Result<Inner, ParseError
         requires { Nests self.now.depth (F.pre self.now.inside) (F.post self.now.inside) }
         ensures { Reads (at spec.some_items self.now.depth tokens.old) result tokens.new }
     {
-        let first = self.expression(tokens)?;
-        let mut all = Items::new(self.alloc);
-        all.push(first)?;
+        let first = Held::new(self.expression(tokens)?);
         let more = self.next_items(tokens)?;
-        all.append(more)?;
+        let all = prepend(self.alloc, Some(first.into_inner()), more)?;
         Ok(all)
     }
 
@@ -159,11 +155,9 @@ impl<F: Fn(Global, &mut Cursor<'_, '_>, usize, Part) -> Result<Inner, ParseError
         requires { Nests self.now.depth (F.pre self.now.inside) (F.post self.now.inside) }
         ensures { Reads (at spec.some_pairs self.now.depth tokens.old) result tokens.new }
     {
-        let first = self.pair(tokens)?;
-        let mut all = Items::new(self.alloc);
-        all.push(first)?;
+        let first = Held::new(self.pair(tokens)?);
         let more = self.next_pairs(tokens)?;
-        all.append(more)?;
+        let all = prepend(self.alloc, Some(first.into_inner()), more)?;
         Ok(all)
     }
 

@@ -19,7 +19,7 @@ use brs_grammar::tree::{
 use grammar_rules::{Word, place_of, same_word, word_of};
 use sqlite_items::{Boxed, Items};
 use std::alloc::Global;
-use token_cursor::{Cursor, ParseError, many};
+use token_cursor::{Cursor, Held, ParseError, many};
 
 impl<F: Fn(Global, &mut Cursor<'_, '_>, usize, Part) -> Result<Inner, ParseError>> Level<F> {
     #[tactic(auto, unfolding(brs_grammar::specs::ReadExpressions::negative))]
@@ -86,9 +86,12 @@ impl<F: Fn(Global, &mut Cursor<'_, '_>, usize, Part) -> Result<Inner, ParseError
         requires { Nests self.now.depth (F.pre self.now.inside) (F.post self.now.inside) }
         ensures { Reads (at spec.a_product self.now.depth tokens.old) result tokens.new }
     {
-        let first = self.minus(tokens)?;
+        let first = Held::new(self.minus(tokens)?);
         let more = self.product_parts(tokens)?;
-        Ok(Product { first, more })
+        Ok(Product {
+            first: first.into_inner(),
+            more,
+        })
     }
 
     #[tactic(auto, unfolding(brs_grammar::specs::ReadExpressions::sum_part))]
@@ -120,9 +123,12 @@ impl<F: Fn(Global, &mut Cursor<'_, '_>, usize, Part) -> Result<Inner, ParseError
         requires { Nests self.now.depth (F.pre self.now.inside) (F.post self.now.inside) }
         ensures { Reads (at spec.a_sum self.now.depth tokens.old) result tokens.new }
     {
-        let first = self.product(tokens)?;
+        let first = Held::new(self.product(tokens)?);
         let more = self.sum_parts(tokens)?;
-        Ok(Sum { first, more })
+        Ok(Sum {
+            first: first.into_inner(),
+            more,
+        })
     }
 
     #[tactic(auto, unfolding(brs_grammar::specs::ReadExpressions::shift_part))]
@@ -154,9 +160,12 @@ impl<F: Fn(Global, &mut Cursor<'_, '_>, usize, Part) -> Result<Inner, ParseError
         requires { Nests self.now.depth (F.pre self.now.inside) (F.post self.now.inside) }
         ensures { Reads (at spec.a_shift self.now.depth tokens.old) result tokens.new }
     {
-        let first = self.sum(tokens)?;
+        let first = Held::new(self.sum(tokens)?);
         let more = self.shift_parts(tokens)?;
-        Ok(Shift { first, more })
+        Ok(Shift {
+            first: first.into_inner(),
+            more,
+        })
     }
 
     #[tactic(auto, unfolding(brs_grammar::specs::ReadExpressions::comparison_part))]
@@ -194,9 +203,12 @@ impl<F: Fn(Global, &mut Cursor<'_, '_>, usize, Part) -> Result<Inner, ParseError
         requires { Nests self.now.depth (F.pre self.now.inside) (F.post self.now.inside) }
         ensures { Reads (at spec.a_comparison self.now.depth tokens.old) result tokens.new }
     {
-        let first = self.shift(tokens)?;
+        let first = Held::new(self.shift(tokens)?);
         let more = self.comparison_parts(tokens)?;
-        Ok(Comparison { first, more })
+        Ok(Comparison {
+            first: first.into_inner(),
+            more,
+        })
     }
 
     #[tactic(auto, unfolding(brs_grammar::specs::ReadExpressions::not_))]
@@ -265,9 +277,12 @@ impl<F: Fn(Global, &mut Cursor<'_, '_>, usize, Part) -> Result<Inner, ParseError
         requires { Nests self.now.depth (F.pre self.now.inside) (F.post self.now.inside) }
         ensures { Reads (at spec.a_conjunction self.now.depth tokens.old) result tokens.new }
     {
-        let first = self.negation(tokens)?;
+        let first = Held::new(self.negation(tokens)?);
         let more = self.and_parts(tokens)?;
-        Ok(Conjunction { first, more })
+        Ok(Conjunction {
+            first: first.into_inner(),
+            more,
+        })
     }
 
     #[tactic(auto, unfolding(brs_grammar::specs::ReadExpressions::or_part))]
@@ -302,8 +317,11 @@ impl<F: Fn(Global, &mut Cursor<'_, '_>, usize, Part) -> Result<Inner, ParseError
         requires { Nests self.now.depth (F.pre self.now.inside) (F.post self.now.inside) }
         ensures { Reads (at spec.an_expression self.now.depth tokens.old) result tokens.new }
     {
-        let first = self.conjunction(tokens)?;
+        let first = Held::new(self.conjunction(tokens)?);
         let more = self.or_parts(tokens)?;
-        Ok(Expression { first, more })
+        Ok(Expression {
+            first: first.into_inner(),
+            more,
+        })
     }
 }

@@ -15,7 +15,7 @@ use brs_grammar::tree::{Postfix, Primary, Value};
 use grammar_rules::{Word, is_name, place_of};
 use sqlite_items::{Boxed, Items};
 use std::alloc::Global;
-use token_cursor::{Cursor, ParseError, many};
+use token_cursor::{Cursor, Held, ParseError, many};
 
 impl<F: Fn(Global, &mut Cursor<'_, '_>, usize, Part) -> Result<Inner, ParseError>> Level<F> {
     #[tactic(auto, unfolding(brs_grammar::specs::ReadExpressions::bracketed))]
@@ -27,9 +27,9 @@ impl<F: Fn(Global, &mut Cursor<'_, '_>, usize, Part) -> Result<Inner, ParseError
             return Err(tokens.refuse());
         }
         let token = tokens.expect(Word::Open)?;
-        let inner = self.inner_expression(tokens)?;
+        let inner = Held::new(self.inner_expression(tokens)?);
         tokens.expect(Word::Close)?;
-        let boxed = Boxed::new(self.alloc, inner)?;
+        let boxed = Boxed::new(self.alloc, inner.into_inner())?;
         Ok(Primary::Bracketed(place_of(&token), boxed))
     }
 
@@ -42,9 +42,9 @@ impl<F: Fn(Global, &mut Cursor<'_, '_>, usize, Part) -> Result<Inner, ParseError
             return Err(tokens.refuse());
         }
         let token = tokens.expect(Word::OpenBracket)?;
-        let inner = self.inner_items(tokens)?;
+        let inner = Held::new(self.inner_items(tokens)?);
         tokens.expect(Word::CloseBracket)?;
-        Ok(Primary::Array(place_of(&token), inner))
+        Ok(Primary::Array(place_of(&token), inner.into_inner()))
     }
 
     #[tactic(auto, unfolding(brs_grammar::specs::ReadExpressions::pairs))]
@@ -56,9 +56,9 @@ impl<F: Fn(Global, &mut Cursor<'_, '_>, usize, Part) -> Result<Inner, ParseError
             return Err(tokens.refuse());
         }
         let token = tokens.expect(Word::OpenBrace)?;
-        let inner = self.inner_pairs(tokens)?;
+        let inner = Held::new(self.inner_pairs(tokens)?);
         tokens.expect(Word::CloseBrace)?;
-        Ok(Primary::Pairs(place_of(&token), inner))
+        Ok(Primary::Pairs(place_of(&token), inner.into_inner()))
     }
 
     #[tactic(auto, unfolding(brs_grammar::specs::ReadExpressions::anonymous_function))]
@@ -70,9 +70,9 @@ impl<F: Fn(Global, &mut Cursor<'_, '_>, usize, Part) -> Result<Inner, ParseError
             return Err(tokens.refuse());
         }
         let token = tokens.expect(Word::Function)?;
-        let inner = self.inner_rest(tokens)?;
+        let inner = Held::new(self.inner_rest(tokens)?);
         end_function(tokens)?;
-        Ok(Primary::AnonymousFunction(place_of(&token), inner))
+        Ok(Primary::AnonymousFunction(place_of(&token), inner.into_inner()))
     }
 
     #[tactic(auto, unfolding(brs_grammar::specs::ReadExpressions::anonymous_sub))]
@@ -84,9 +84,9 @@ impl<F: Fn(Global, &mut Cursor<'_, '_>, usize, Part) -> Result<Inner, ParseError
             return Err(tokens.refuse());
         }
         let token = tokens.expect(Word::Sub)?;
-        let inner = self.inner_rest(tokens)?;
+        let inner = Held::new(self.inner_rest(tokens)?);
         end_sub(tokens)?;
-        Ok(Primary::AnonymousSub(place_of(&token), inner))
+        Ok(Primary::AnonymousSub(place_of(&token), inner.into_inner()))
     }
 
     /// A primary expression.
@@ -119,9 +119,12 @@ impl<F: Fn(Global, &mut Cursor<'_, '_>, usize, Part) -> Result<Inner, ParseError
             return Err(tokens.refuse());
         }
         let token = tokens.expect(Word::OpenBracket)?;
-        let inner = self.inner_expression(tokens)?;
+        let inner = Held::new(self.inner_expression(tokens)?);
         tokens.expect(Word::CloseBracket)?;
-        Ok(Some(Postfix::Index(place_of(&token), inner)))
+        Ok(Some(Postfix::Index(
+            place_of(&token),
+            inner.into_inner(),
+        )))
     }
 
     #[tactic(auto, unfolding(brs_grammar::specs::ReadExpressions::arguments))]
@@ -133,9 +136,12 @@ impl<F: Fn(Global, &mut Cursor<'_, '_>, usize, Part) -> Result<Inner, ParseError
             return Err(tokens.refuse());
         }
         let token = tokens.expect(Word::Open)?;
-        let inner = self.inner_arguments(tokens)?;
+        let inner = Held::new(self.inner_arguments(tokens)?);
         tokens.expect(Word::Close)?;
-        Ok(Some(Postfix::Arguments(place_of(&token), inner)))
+        Ok(Some(Postfix::Arguments(
+            place_of(&token),
+            inner.into_inner(),
+        )))
     }
 
     #[tactic(auto, unfolding(brs_grammar::specs::ReadExpressions::a_postfix, grammar_rules::specs::Words::same_word))]
@@ -167,8 +173,11 @@ impl<F: Fn(Global, &mut Cursor<'_, '_>, usize, Part) -> Result<Inner, ParseError
         requires { Nests self.now.depth (F.pre self.now.inside) (F.post self.now.inside) }
         ensures { Reads (at spec.a_value self.now.depth tokens.old) result tokens.new }
     {
-        let first = self.primary(tokens)?;
+        let first = Held::new(self.primary(tokens)?);
         let more = self.postfixes(tokens)?;
-        Ok(Value { first, more })
+        Ok(Value {
+            first: first.into_inner(),
+            more,
+        })
     }
 }

@@ -155,6 +155,7 @@ pub fn place_of(token: &Token<'_>) -> Place
     }
 }
 
+/// Whether two words are the same.
 #[tactic(auto, unfolding(crate::specs::Words::same_word))]
 pub fn same_word(a: Word, b: Word) -> bool
     ensures { result ≡ spec.same_word a b }
@@ -234,6 +235,7 @@ fn is_other_keyword(word: Word) -> bool
     )
 }
 
+/// A keyword, which no name may be.
 pub fn is_keyword(word: Word) -> bool
     ensures { result ≡ spec.is_keyword word }
 {

@@ -11,7 +11,9 @@ pub enum Word {
     Newline,
     /// A name without a meaning of its own.
     Name,
+    /// A number, whose digits are in its token.
     Number,
+    /// A text in quotes.
     Text,
     /// The name `as`.
     As,

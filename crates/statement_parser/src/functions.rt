@@ -16,7 +16,7 @@ use expression_parser::{Inner, Part, name_of};
 use grammar_rules::{Word, is_name, same_word};
 use sqlite_items::Items;
 use std::alloc::Global;
-use token_cursor::{Cursor, ParseError, many};
+use token_cursor::{Cursor, Held, ParseError, many, prepend};
 
 impl<F: Fn(Global, &mut Cursor<'_, '_>, usize, Part) -> Result<Inner, ParseError>> Statements<F> {
     #[tactic(auto, unfolding(brs_grammar::specs::ReadFunctions::default_value))]
@@ -52,11 +52,11 @@ impl<F: Fn(Global, &mut Cursor<'_, '_>, usize, Part) -> Result<Inner, ParseError
     {
         let token = tokens.expect_name()?;
         let name = name_of(self.level.alloc, &token)?;
-        let default = self.optional_default(tokens)?;
+        let default = Held::new(self.optional_default(tokens)?);
         let kind = optional_type(tokens)?;
         Ok(Parameter {
             name,
-            default,
+            default: default.into_inner(),
             kind,
         })
     }
@@ -89,11 +89,9 @@ impl<F: Fn(Global, &mut Cursor<'_, '_>, usize, Part) -> Result<Inner, ParseError
         requires { Nests self.now.level.depth (F.pre self.now.level.inside) (F.post self.now.level.inside) }
         ensures { Reads (at spec.some_parameters self.now.level.depth tokens.old) result tokens.new }
     {
-        let first = self.parameter(tokens)?;
-        let mut all = Items::new(self.level.alloc);
-        all.push(first)?;
+        let first = Held::new(self.parameter(tokens)?);
         let more = self.next_parameters(tokens)?;
-        all.append(more)?;
+        let all = prepend(self.level.alloc, Some(first.into_inner()), more)?;
         Ok(all)
     }
 
@@ -116,13 +114,13 @@ impl<F: Fn(Global, &mut Cursor<'_, '_>, usize, Part) -> Result<Inner, ParseError
         ensures { Reads (at spec.a_rest self.now.level.depth tokens.old) result tokens.new }
     {
         tokens.expect(Word::Open)?;
-        let parameters = self.all_parameters(tokens)?;
+        let parameters = Held::new(self.all_parameters(tokens)?);
         tokens.expect(Word::Close)?;
         let value = optional_type(tokens)?;
         separator(tokens)?;
         let body = self.block(tokens)?;
         Ok(Rest {
-            parameters,
+            parameters: parameters.into_inner(),
             value,
             body,
         })

@@ -19,7 +19,7 @@ use expression_parser::{Inner, Part};
 use grammar_rules::{Word, place_of, same_word};
 use sqlite_items::Items;
 use std::alloc::Global;
-use token_cursor::{Cursor, EndedTurns, ParseError, ended};
+use token_cursor::{Cursor, EndedTurns, Held, ParseError, ended};
 
 /// The place of an `else`.
 #[tactic(auto, unfolding(crate::specs::Arms::else_place))]
@@ -31,6 +31,7 @@ fn else_place(tokens: &mut Cursor<'_, '_>) -> Result<Place, ParseError>
 }
 
 impl<F: Fn(Global, &mut Cursor<'_, '_>, usize, Part) -> Result<Inner, ParseError>> Statements<F> {
+    /// The condition and the statements of an arm in one line, behind its first word.
     #[tactic(auto, unfolding(brs_grammar::specs::ReadStatements::next_line_arm))]
     fn line_arm(
         &self,
@@ -40,16 +41,17 @@ impl<F: Fn(Global, &mut Cursor<'_, '_>, usize, Part) -> Result<Inner, ParseError
         requires { Nests self.now.level.depth (F.pre self.now.level.inside) (F.post self.now.level.inside) }
         ensures { Gives option_to_list (at spec.next_line_arm self.now.level.depth place tokens.old) result tokens.new }
     {
-        let condition = self.level.expression(tokens)?;
+        let condition = Held::new(self.level.expression(tokens)?);
         then_word(tokens)?;
         let run = self.run(tokens)?;
         Ok(Some(LineArm {
             place,
-            condition,
+            condition: condition.into_inner(),
             run,
         }))
     }
 
+    /// An arm in one line from the `if` of `else if` on.
     #[tactic(auto, unfolding(brs_grammar::specs::ReadStatements::else_if_line_arm))]
     fn else_if_line_arm(
         &self,
@@ -63,6 +65,7 @@ impl<F: Fn(Global, &mut Cursor<'_, '_>, usize, Part) -> Result<Inner, ParseError
         self.line_arm(tokens, place)
     }
 
+    /// An arm in one line from `elseif` on.
     #[tactic(auto, unfolding(crate::specs::Arms::line_arm))]
     fn elseif_line_arm(&self, tokens: &mut Cursor<'_, '_>) -> Result<Option<LineArm>, ParseError>
         requires { Nests self.now.level.depth (F.pre self.now.level.inside) (F.post self.now.level.inside) }
@@ -72,6 +75,7 @@ impl<F: Fn(Global, &mut Cursor<'_, '_>, usize, Part) -> Result<Inner, ParseError
         self.line_arm(tokens, place_of(&token))
     }
 
+    /// The further arms of an `if` in one line, and the statements behind its `else`.
     #[tactic(auto, using(crate::proofs::Heads::line_ended))]
     fn line_ending(
         &self,
@@ -93,6 +97,7 @@ impl<F: Fn(Global, &mut Cursor<'_, '_>, usize, Part) -> Result<Inner, ParseError
         )
     }
 
+    /// The condition and the block of an arm, behind its first word.
     #[tactic(auto, unfolding(brs_grammar::specs::ReadStatements::next_block_arm))]
     fn block_arm(
         &self,
@@ -102,17 +107,18 @@ impl<F: Fn(Global, &mut Cursor<'_, '_>, usize, Part) -> Result<Inner, ParseError
         requires { Nests self.now.level.depth (F.pre self.now.level.inside) (F.post self.now.level.inside) }
         ensures { Gives option_to_list (at spec.next_block_arm self.now.level.depth place tokens.old) result tokens.new }
     {
-        let condition = self.level.expression(tokens)?;
+        let condition = Held::new(self.level.expression(tokens)?);
         then_word(tokens)?;
         tokens.expect(Word::Newline)?;
         let block = self.level.inner_block(tokens)?;
         Ok(Some(BlockArm {
             place,
-            condition,
+            condition: condition.into_inner(),
             block,
         }))
     }
 
+    /// An arm with a block from the `if` of `else if` on.
     #[tactic(auto, unfolding(brs_grammar::specs::ReadStatements::else_if_block_arm))]
     fn else_if_block_arm(
         &self,
@@ -126,6 +132,7 @@ impl<F: Fn(Global, &mut Cursor<'_, '_>, usize, Part) -> Result<Inner, ParseError
         self.block_arm(tokens, place)
     }
 
+    /// An arm with a block from `elseif` on.
     #[tactic(auto, unfolding(crate::specs::Arms::block_arm))]
     fn elseif_block_arm(&self, tokens: &mut Cursor<'_, '_>) -> Result<Option<BlockArm>, ParseError>
         requires { Nests self.now.level.depth (F.pre self.now.level.inside) (F.post self.now.level.inside) }
@@ -135,6 +142,7 @@ impl<F: Fn(Global, &mut Cursor<'_, '_>, usize, Part) -> Result<Inner, ParseError
         self.block_arm(tokens, place_of(&token))
     }
 
+    /// The block behind an `else`.
     #[tactic(auto, unfolding(brs_grammar::specs::ReadStatements::block_else))]
     fn block_else(&self, tokens: &mut Cursor<'_, '_>) -> Result<Items<Statement>, ParseError>
         requires { Nests self.now.level.depth (F.pre self.now.level.inside) (F.post self.now.level.inside) }
@@ -144,6 +152,7 @@ impl<F: Fn(Global, &mut Cursor<'_, '_>, usize, Part) -> Result<Inner, ParseError
         self.level.inner_block(tokens)
     }
 
+    /// The further arms of an `if` with blocks, and the block behind its `else`.
     #[tactic(auto, using(crate::proofs::Heads::block_ended))]
     fn block_ending(
         &self,
@@ -165,54 +174,58 @@ impl<F: Fn(Global, &mut Cursor<'_, '_>, usize, Part) -> Result<Inner, ParseError
         )
     }
 
+    /// An `if` with blocks from the line end behind its first condition on.
     #[tactic(auto, unfolding(brs_grammar::specs::ReadStatements::block_if_rest))]
     fn block_if_rest(
         &self,
         tokens: &mut Cursor<'_, '_>,
         place: Place,
-        condition: Expression,
+        condition: Held<Expression>,
     ) -> Result<Statement, ParseError>
         requires { Nests self.now.level.depth (F.pre self.now.level.inside) (F.post self.now.level.inside) }
         ensures { Reads (at spec.block_if_rest self.now.level.depth place condition tokens.old) result tokens.new }
     {
         tokens.expect(Word::Newline)?;
-        let block = self.level.inner_block(tokens)?;
-        let ending = self.block_ending(tokens)?;
+        let block = Held::new(self.level.inner_block(tokens)?);
+        let ending = Held::new(self.block_ending(tokens)?);
         end_if(tokens)?;
         let arm = BlockArm {
             place,
-            condition,
-            block,
+            condition: condition.into_inner(),
+            block: block.into_inner(),
         };
+        let ending = ending.into_inner();
         Ok(Statement::BlockIf(arm, ending.turns, ending.last))
     }
 
+    /// An `if` in one line from its first statement on.
     #[tactic(auto, unfolding(brs_grammar::specs::ReadStatements::line_if_rest))]
     fn line_if_rest(
         &self,
         tokens: &mut Cursor<'_, '_>,
         place: Place,
-        condition: Expression,
+        condition: Held<Expression>,
     ) -> Result<Statement, ParseError>
         requires { Nests self.now.level.depth (F.pre self.now.level.inside) (F.post self.now.level.inside) }
         ensures { Reads (at spec.line_if_rest self.now.level.depth place condition tokens.old) result tokens.new }
     {
-        let run = self.run(tokens)?;
+        let run = Held::new(self.run(tokens)?);
         let ending = self.line_ending(tokens)?;
         let arm = LineArm {
             place,
-            condition,
-            run,
+            condition: condition.into_inner(),
+            run: run.into_inner(),
         };
         Ok(Statement::LineIf(arm, ending.turns, ending.last))
     }
 
+    /// An `if` with blocks, and what ends its line.
     #[tactic(auto, unfolding(brs_grammar::specs::ReadStatements::block_if_line))]
     fn block_if_line(
         &self,
         tokens: &mut Cursor<'_, '_>,
         place: Place,
-        condition: Expression,
+        condition: Held<Expression>,
     ) -> Result<Option<Statement>, ParseError>
         requires { Nests self.now.level.depth (F.pre self.now.level.inside) (F.post self.now.level.inside) }
         ensures { Gives option_to_list (at spec.block_if_line self.now.level.depth place condition tokens.old) result tokens.new }
@@ -224,12 +237,13 @@ impl<F: Fn(Global, &mut Cursor<'_, '_>, usize, Part) -> Result<Inner, ParseError
         with_separator(tokens, read)
     }
 
+    /// An `if` in one line, and the line end behind it.
     #[tactic(auto, unfolding(brs_grammar::specs::ReadStatements::line_if_line))]
     fn line_if_line(
         &self,
         tokens: &mut Cursor<'_, '_>,
         place: Place,
-        condition: Expression,
+        condition: Held<Expression>,
     ) -> Result<Option<Statement>, ParseError>
         requires { Nests self.now.level.depth (F.pre self.now.level.inside) (F.post self.now.level.inside) }
         ensures { Gives option_to_list (at spec.line_if_line self.now.level.depth place condition tokens.old) result tokens.new }
@@ -238,12 +252,13 @@ impl<F: Fn(Global, &mut Cursor<'_, '_>, usize, Part) -> Result<Inner, ParseError
         with_newline(tokens, read)
     }
 
+    /// What follows the first condition of an `if`.
     #[tactic(auto, unfolding(grammar_rules::specs::Words::same_word))]
     fn if_body(
         &self,
         tokens: &mut Cursor<'_, '_>,
         place: Place,
-        condition: Expression,
+        condition: Held<Expression>,
     ) -> Result<Option<Statement>, ParseError>
         requires { Nests self.now.level.depth (F.pre self.now.level.inside) (F.post self.now.level.inside) }
         ensures { Gives option_to_list (reading.choose (rules.same_word word.Newline) (at spec.block_if_line self.now.level.depth place condition) (at spec.line_if_line self.now.level.depth place condition) tokens.old) result tokens.new }
@@ -261,7 +276,7 @@ impl<F: Fn(Global, &mut Cursor<'_, '_>, usize, Part) -> Result<Inner, ParseError
         ensures { Gives option_to_list (at spec.if_line self.now.level.depth tokens.old) result tokens.new }
     {
         let token = tokens.expect(Word::If)?;
-        let condition = self.level.expression(tokens)?;
+        let condition = Held::new(self.level.expression(tokens)?);
         then_word(tokens)?;
         self.if_body(tokens, place_of(&token), condition)
     }

@@ -20,7 +20,7 @@ use expression_parser::{Inner, Part};
 use grammar_rules::{Word, place_of};
 use sqlite_items::Items;
 use std::alloc::Global;
-use token_cursor::{Cursor, ParseError, keep, many, trail};
+use token_cursor::{Cursor, Held, ParseError, many, prepend, trail};
 
 #[tactic(auto, unfolding(brs_grammar::specs::ReadStatementWords::semicolon))]
 fn semicolon(tokens: &mut Cursor<'_, '_>) -> Result<Option<PrintItem>, ParseError>
@@ -67,11 +67,9 @@ fn print_separators(
 ) -> Result<Items<PrintItem>, ParseError>
     ensures { Reads (words.print_separators tokens.old) result tokens.new }
 {
-    let first = print_separator(tokens)?;
-    let mut all = Items::new(alloc);
-    keep(&mut all, first)?;
+    let first = Held::new(print_separator(tokens)?);
     let more = more_separators(alloc, tokens)?;
-    all.append(more)?;
+    let all = prepend(alloc, first.into_inner(), more)?;
     Ok(all)
 }
 
@@ -115,11 +113,9 @@ impl<F: Fn(Global, &mut Cursor<'_, '_>, usize, Part) -> Result<Inner, ParseError
         requires { Nests self.now.level.depth (F.pre self.now.level.inside) (F.post self.now.level.inside) }
         ensures { Reads (at spec.print_values self.now.level.depth tokens.old) result tokens.new }
     {
-        let first = self.print_value(tokens)?;
-        let mut all = Items::new(self.level.alloc);
-        keep(&mut all, first)?;
+        let first = Held::new(self.print_value(tokens)?);
         let more = self.next_values(tokens)?;
-        all.append(more)?;
+        let all = prepend(self.level.alloc, first.into_inner(), more)?;
         Ok(all)
     }
 
@@ -139,8 +135,9 @@ impl<F: Fn(Global, &mut Cursor<'_, '_>, usize, Part) -> Result<Inner, ParseError
         requires { Nests self.now.level.depth (F.pre self.now.level.inside) (F.post self.now.level.inside) }
         ensures { Reads (at spec.print_items self.now.level.depth tokens.old) result tokens.new }
     {
-        let mut items = more_separators(self.level.alloc, tokens)?;
+        let separators = Held::new(more_separators(self.level.alloc, tokens)?);
         let values = self.optional_values(tokens)?;
+        let mut items = separators.into_inner();
         items.append(values)?;
         Ok(items)
     }

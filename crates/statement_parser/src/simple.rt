@@ -19,7 +19,7 @@ use expression_parser::{Inner, Part, name_of};
 use grammar_rules::{Word, is_name, place_of, same_word, word_of};
 use sqlite_items::Items;
 use std::alloc::Global;
-use token_cursor::{Cursor, ParseError, many};
+use token_cursor::{Cursor, Held, ParseError, many, prepend};
 
 impl<F: Fn(Global, &mut Cursor<'_, '_>, usize, Part) -> Result<Inner, ParseError>> Statements<F> {
     #[tactic(auto, unfolding(brs_grammar::specs::ReadStatements::a_target))]
@@ -149,11 +149,9 @@ impl<F: Fn(Global, &mut Cursor<'_, '_>, usize, Part) -> Result<Inner, ParseError
         requires { Nests self.now.level.depth (F.pre self.now.level.inside) (F.post self.now.level.inside) }
         ensures { Reads (at spec.run self.now.level.depth tokens.old) result tokens.new }
     {
-        let first = self.simple(tokens)?;
-        let mut all = Items::new(self.level.alloc);
-        all.push(first)?;
+        let first = Held::new(self.simple(tokens)?);
         let more = self.next_simples(tokens)?;
-        all.append(more)?;
+        let all = prepend(self.level.alloc, Some(first.into_inner()), more)?;
         Ok(all)
     }
 }

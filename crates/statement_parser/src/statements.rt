@@ -10,6 +10,7 @@ use token_cursor::{Cursor, ParseError};
 /// The parser of statements and functions at a level of nesting.
 #[derive(Clone, Copy)]
 pub struct Statements<F> {
+    /// The level, which reads what stands inside.
     pub level: Level<F>,
 }
 

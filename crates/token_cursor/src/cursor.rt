@@ -28,6 +28,7 @@ pub struct Cursor<'t, 'a> {
 pub enum ParseError {
     /// The form doesn't go on with the token at which the cursor stands.
     Fault,
+    /// Memory ran out.
     NoMemory,
 }
 
@@ -77,6 +78,7 @@ fn word_at(tokens: &TokenList<'_>, at: usize) -> Word
 }
 
 impl<'t, 'a> Cursor<'t, 'a> {
+    /// A cursor at the first token.
     pub fn new(tokens: &'t TokenList<'a>) -> Cursor<'t, 'a>
         ensures { result ≡ tokens.now }
     {
@@ -94,7 +96,7 @@ impl<'t, 'a> Cursor<'t, 'a> {
         self.tokens.len().saturating_sub(self.at)
     }
 
-    /// The word of the next token.
+    /// The word of the next token, or `Word::End` where none is left.
     pub fn peek(&self) -> Word
         ensures { result ≡ spec.next self.now }
     {

@@ -18,7 +18,9 @@ use std::alloc::Global;
 /// Turns, and at most one last turn of another kind.
 #[derive(Drop)]
 pub struct EndedTurns<A, B> {
+    /// The turns of both kinds in order.
     pub turns: Items<A>,
+    /// The last turn.
     pub last: Option<B>,
 }
 

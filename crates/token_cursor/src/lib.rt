@@ -3,11 +3,13 @@
 
 mod cursor;
 mod ending;
+mod held;
 mod repeat;
 
 pub use cursor::{Cursor, ParseError};
 pub use ending::{EndedTurns, ended};
-pub use repeat::{keep, many, trail};
+pub use held::{Held, discard};
+pub use repeat::{keep, many, prepend, trail};
 
 #[cfg(test)]
 mod tests;

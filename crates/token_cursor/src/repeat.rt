@@ -1,5 +1,5 @@
 //! The loops that repeated forms are read by.
-ghost use Rattle.std.specs.Prelude.{◌≡◌, ◌++◌, Bool, List, OnOk};
+ghost use Rattle.std.specs.Prelude.{◌≡◌, ◌++◌, Bool, IfOk, List, OnErr, OnOk};
 ghost use Rattle.std.specs.Option.{option_to_list};
 ghost use Rattle.grammar_rules.specs.declared.word.Word.{Word};
 ghost use Rattle.grammar_rules.specs.Reading as reading;
@@ -12,14 +12,29 @@ use grammar_rules::Word;
 use sqlite_items::Items;
 use std::alloc::{AllocError, Global};
 
-/// Adds the item at the end, if there is one.
+/// Adds the item at the end, if there is one. After want of memory the list is as it was.
 pub fn keep<A: Drop>(found: &mut Items<A>, item: Option<A>) -> Result<(), AllocError>
-    ensures { OnOk result (found.new ≡ found.old ++ option_to_list item) }
+    ensures kept { OnOk result (found.new ≡ found.old ++ option_to_list item) }
+    ensures unchanged { OnErr result (found.new ≡ found.old) }
 {
     match item {
         Some(item) => found.push(item),
         None => Ok(()),
     }
+}
+
+/// The list of an item, if there is one, and of what follows it.
+pub fn prepend<A: Drop>(
+    alloc: Global,
+    first: Option<A>,
+    more: Items<A>,
+) -> Result<Items<A>, AllocError>
+    ensures { IfOk result (λ all. all ≡ option_to_list first ++ more) }
+{
+    let mut all = Items::new(alloc);
+    keep(&mut all, first)?;
+    all.append(more)?;
+    Ok(all)
 }
 
 /// Turns while the next token begins one. A turn may have nothing to keep.

@@ -26,7 +26,7 @@ pub loop-turn-preserved-then-same_word : goal.loop-turn-preserved-then-same_word
 loop-turn-preserved-then-same_word g c h p q r s th tp hq or ls =
     let y : same_word c.args.turns (next c.loop-turn.tokens) ≡ true = cc in
     let k = tp.reads _ _ _ c.in_ok-item.ensures in
-    rw c.in_ok-keep.ensures
+    rw c.in_ok-keep.ensures.kept
     (turn_ok (same_word c.args.turns) h (same_word c.args.again) p q r s _ _ c.loop-turn._turn c.loop-turn.found c.loop-turn.tokens (option_to_list c.in_ok-item.item) c.turn.new.arg2 c.loop-turn-test.true (c.loop-turn.invariant h p q r s th tp hq or ls) y k)
 
 pub returns-then-not-heads : goal.returns-then-not-heads
@@ -94,7 +94,7 @@ loop-turn-preserved g c h p q r s th tp hq or ls =
     let d = hq.reads _ _ _ c.in_ok-begun.ensures in
     let w : same_word c.args.again (next c.head.new.arg2) ≡ true = cc in
     let k = or.reads _ _ _ _ c.in_ok-more.ensures in
-    rw c.in_ok-keep-2.ensures
+    rw c.in_ok-keep-2.ensures.kept
     (other_ok (same_word c.args.turns) h (same_word c.args.again) p q r s _ _ c.loop-turn._turn c.loop-turn.found c.loop-turn.tokens c.in_ok-begun.begun (option_to_list c.in_ok-more.more) c.head.new.arg2 c.other.new.arg2 c.loop-turn-test.true (c.loop-turn.invariant h p q r s th tp hq or ls) y z d w k)
 
 pub returns : goal.returns

@@ -33,7 +33,7 @@ loop-turn-preserved g c test p tests turns =
     let same = tests.gives _ _ c.begins.ensures in
     let y : test (next c.loop-turn.tokens) ≡ true = cc in
     let h = turns.reads _ _ _ c.in_ok-item.ensures in
-    rw c.in_ok-keep.ensures
+    rw c.in_ok-keep.ensures.kept
     (turn_ok test p _ _ c.loop-turn._turn c.loop-turn.found c.loop-turn.tokens (option_to_list c.in_ok-item.item) c.turn.new.arg2 c.loop-turn-test.true (c.loop-turn.invariant test p tests turns) y h)
 
 pub returns : goal.returns

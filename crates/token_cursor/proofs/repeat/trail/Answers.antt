@@ -60,7 +60,7 @@ loop-turn-preserved g c gs is p q tg ti sg si =
     let same2 = ti.gives _ _ c.items.ensures in
     let w : is (next c.gap.new.arg2) ≡ true = cc in
     let k = si.reads _ _ _ c.in_ok-next.ensures in
-    rw (c.in_ok-keep.ensures, c.in_ok-append.ensures)
+    rw (c.in_ok-keep.ensures.kept, c.in_ok-append.ensures)
     (item_ok gs is p q _ _ c.loop-turn._turn c.loop-turn.found c.loop-turn.tokens c.in_ok-between.between (option_to_list c.in_ok-next.next) c.gap.new.arg2 c.item.new.arg2 c.loop-turn-test.true (c.loop-turn.invariant gs is p q tg ti sg si) y h w k)
 
 pub returns : goal.returns
