@@ -121,10 +121,7 @@ impl<F: Fn(Global, &mut Cursor<'_, '_>, usize, Part) -> Result<Inner, ParseError
         let token = tokens.expect(Word::OpenBracket)?;
         let inner = Held::new(self.inner_expression(tokens)?);
         tokens.expect(Word::CloseBracket)?;
-        Ok(Some(Postfix::Index(
-            place_of(&token),
-            inner.into_inner(),
-        )))
+        Ok(Some(Postfix::Index(place_of(&token), inner.into_inner())))
     }
 
     #[tactic(auto, unfolding(brs_grammar::specs::ReadExpressions::arguments))]
@@ -138,10 +135,7 @@ impl<F: Fn(Global, &mut Cursor<'_, '_>, usize, Part) -> Result<Inner, ParseError
         let token = tokens.expect(Word::Open)?;
         let inner = Held::new(self.inner_arguments(tokens)?);
         tokens.expect(Word::Close)?;
-        Ok(Some(Postfix::Arguments(
-            place_of(&token),
-            inner.into_inner(),
-        )))
+        Ok(Some(Postfix::Arguments(place_of(&token), inner.into_inner())))
     }
 
     #[tactic(auto, unfolding(brs_grammar::specs::ReadExpressions::a_postfix, grammar_rules::specs::Words::same_word))]

@@ -47,7 +47,6 @@ fits_members name store w (Array vs) n f e =
     let g : f.0 ≡ n = cc in (ArrayObject (map (meaning name) vs), subst (λ i. slice_get store i ≡ Some (ArrayObject (map (meaning name) vs))) g f.2, refl)
 fits_members name store w (Pairs es) n f e =
     let g : f.0 ≡ n = cc in (MapObject (map (entry_meaning name) es), subst (λ i. slice_get store i ≡ Some (MapObject (map (entry_meaning name) es))) g f.2, pair_members name es)
-
 fits_members name store w (Message m) n f e =
     let g : f.0 ≡ n = cc in (MessageObject m, subst (λ i. slice_get store i ≡ Some (MessageObject m)) g f.2, refl)
 

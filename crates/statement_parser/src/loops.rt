@@ -22,10 +22,7 @@ use token_cursor::{Cursor, Held, ParseError};
 
 impl<F: Fn(Global, &mut Cursor<'_, '_>, usize, Part) -> Result<Inner, ParseError>> Statements<F> {
     /// An expression as the head of a `for` has it.
-    fn boxed_expression(
-        &self,
-        tokens: &mut Cursor<'_, '_>,
-    ) -> Result<Boxed<Expression>, ParseError>
+    fn boxed_expression(&self, tokens: &mut Cursor<'_, '_>) -> Result<Boxed<Expression>, ParseError>
         requires { Nests self.now.level.depth (F.pre self.now.level.inside) (F.post self.now.level.inside) }
         ensures { Reads (at expression.an_expression self.now.level.depth tokens.old) result tokens.new }
     {
@@ -119,12 +116,7 @@ impl<F: Fn(Global, &mut Cursor<'_, '_>, usize, Part) -> Result<Inner, ParseError
         separator(tokens)?;
         let block = Held::new(self.level.inner_block(tokens)?);
         end_for(tokens)?;
-        Ok(Statement::ForEach(
-            place,
-            name,
-            items.into_inner(),
-            block.into_inner(),
-        ))
+        Ok(Statement::ForEach(place, name, items.into_inner(), block.into_inner()))
     }
 
     /// What follows the first name of a `for`. `each` is the variable where `=` follows.
@@ -178,10 +170,6 @@ impl<F: Fn(Global, &mut Cursor<'_, '_>, usize, Part) -> Result<Inner, ParseError
         separator(tokens)?;
         let block = Held::new(self.level.inner_block(tokens)?);
         end_while(tokens)?;
-        Ok(Statement::While(
-            place_of(&token),
-            condition.into_inner(),
-            block.into_inner(),
-        ))
+        Ok(Statement::While(place_of(&token), condition.into_inner(), block.into_inner()))
     }
 }
