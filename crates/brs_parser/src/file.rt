@@ -15,7 +15,7 @@ use grammar_rules::{Word, place_of};
 use sqlite_items::Items;
 use statement_parser::Statements;
 use std::alloc::Global;
-use token_cursor::{Cursor, EndedTurns, ParseError, ended, keep};
+use token_cursor::{Cursor, EndedTurns, Held, ParseError, ended, keep};
 
 /// How many forms may stand inside one another in a file.
 const FILE_DEPTH: usize = 64;
@@ -38,9 +38,9 @@ fn function(alloc: Global, tokens: &mut Cursor<'_, '_>) -> Result<NamedFunction,
     let token = tokens.expect(Word::Function)?;
     let spelled = tokens.expect_name()?;
     let name = name_of(alloc, &spelled)?;
-    let rest = rest(alloc, tokens)?;
+    let rest = Held::new(rest(alloc, tokens)?);
     end_function(tokens)?;
-    Ok(NamedFunction::Function(place_of(&token), name, rest))
+    Ok(NamedFunction::Function(place_of(&token), name, rest.into_inner()))
 }
 
 #[tactic(auto, unfolding(brs_grammar::specs::ReadFunctions::sub))]
@@ -50,9 +50,9 @@ fn sub(alloc: Global, tokens: &mut Cursor<'_, '_>) -> Result<NamedFunction, Pars
     let token = tokens.expect(Word::Sub)?;
     let spelled = tokens.expect_name()?;
     let name = name_of(alloc, &spelled)?;
-    let rest = rest(alloc, tokens)?;
+    let rest = Held::new(rest(alloc, tokens)?);
     end_sub(tokens)?;
-    Ok(NamedFunction::Sub(place_of(&token), name, rest))
+    Ok(NamedFunction::Sub(place_of(&token), name, rest.into_inner()))
 }
 
 #[tactic(auto, unfolding(brs_grammar::specs::ReadFunctions::named_function, grammar_rules::specs::Words::same_word))]
@@ -73,8 +73,9 @@ fn named_line(
 ) -> Result<Option<NamedFunction>, ParseError>
     ensures { Gives option_to_list (at spec.named_line file_number function tokens.old) result tokens.new }
 {
+    let function = Held::new(function);
     tokens.expect(Word::Newline)?;
-    Ok(Some(function))
+    Ok(Some(function.into_inner()))
 }
 
 /// The named functions with their line ends, and the last one where no line end follows.
@@ -113,7 +114,7 @@ fn functions(alloc: Global, tokens: &mut Cursor<'_, '_>) -> Result<Items<NamedFu
 pub fn file(alloc: Global, tokens: &mut Cursor<'_, '_>) -> Result<Items<NamedFunction>, ParseError>
     ensures { Reads (spec.file tokens.old) result tokens.new }
 {
-    let functions = functions(alloc, tokens)?;
+    let functions = Held::new(functions(alloc, tokens)?);
     tokens.end()?;
-    Ok(functions)
+    Ok(functions.into_inner())
 }

@@ -20,6 +20,7 @@ use token_cursor::{Cursor, ParseError};
 pub enum ParseAnswer {
     /// Its first fault.
     Fault(SyntaxFault),
+    /// Memory ran out.
     NoMemory,
 }
 
