@@ -1,8 +1,8 @@
 //! Good and faulty files, parameters and types, and how deep forms may stand inside one another.
 //!
 //! A row of a table is a source, and the line and column of its fault, or 0 and 0 where it has a tree. Each fault was found by hand.
-use crate::test_sources::{parsed, place_of_fault};
-use crate::{ParseAnswer, SyntaxFault};
+use crate::SyntaxFault;
+use crate::test_sources::{fault_of, parsed, place_of_fault};
 use brs_tokens::{LexAnswer, LexKind, lex};
 use std::alloc::Global;
 use std::test::Fail;
@@ -140,16 +140,18 @@ fn forms_stand_64_deep_inside_one_another(rt: HostRuntime) -> Result<(), Fail> {
         place_of_fault(alloc, &in_brackets(alloc, 65)?),
         Some((2, 69))
     );
-    for (opened, closed, column) in [
-        ("while x\n", "end while\n", 1),
-        ("for i = 1 to 2\n", "next\n", 1),
-        ("if x\n", "end if\n", 5),
-        ("x = sub()\n", "end sub\n", 5),
+    for (opened, closed, line, column) in [
+        ("while x\n", "end while\n", 66, 1),
+        ("for i = 1 to 2\n", "next\n", 66, 1),
+        ("if x\n", "end if\n", 66, 5),
+        ("if x\nelse if y\n", "end if\n", 130, 5),
+        ("if x\nelseif y\nelse\n", "end if\n", 194, 5),
+        ("x = sub()\n", "end sub\n", 66, 5),
     ] {
         let good = in_blocks(alloc, 64, opened, closed)?;
         assert_eq!(rt; place_of_fault(alloc, &good), Some((0, 0)));
         let deep = in_blocks(alloc, 65, opened, closed)?;
-        assert_eq!(rt; place_of_fault(alloc, &deep), Some((66, column)));
+        assert_eq!(rt; place_of_fault(alloc, &deep), Some((line, column)));
     }
     Ok(())
 }
@@ -169,6 +171,14 @@ fn faults_of_spelling_come_first(rt: HostRuntime) -> Result<(), Fail> {
     Ok(())
 }
 
+/// How many named functions a source file has, and nothing where it has no tree.
+fn count_of_functions(alloc: Global, source: &str) -> Option<usize> {
+    match parsed(alloc, source)? {
+        Ok(tree) => Some(tree.functions.len()),
+        Err(_) => None,
+    }
+}
+
 #[test]
 fn functions_and_fault_tokens_are_counted(rt: HostRuntime) -> Result<(), Fail> {
     let alloc = rt.alloc();
@@ -177,16 +187,13 @@ fn functions_and_fault_tokens_are_counted(rt: HostRuntime) -> Result<(), Fail> {
         ("\n", 0),
         ("sub f()\nend sub\nfunction g()\nend function", 2),
     ] {
-        let tree = parsed(alloc, source);
-        assert!(rt; matches!(&tree, Some(Ok(tree)) if tree.functions.len() == functions));
+        assert_eq!(rt; count_of_functions(alloc, source), Some(functions));
     }
     let end = SyntaxFault {
         token: 4,
         line: 1,
         column: 8,
     };
-    assert!(rt;
-        matches!(parsed(alloc, "sub f()"), Some(Err(ParseAnswer::Fault(fault))) if fault == end)
-    );
+    assert_eq!(rt; fault_of(alloc, "sub f()"), Some(end));
     Ok(())
 }

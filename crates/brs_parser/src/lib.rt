@@ -17,3 +17,7 @@ mod file_tests;
 mod statement_tests;
 #[cfg(test)]
 mod test_sources;
+#[cfg(test)]
+mod tree_tests;
+#[cfg(test)]
+mod tree_text;
