@@ -27,7 +27,9 @@ impl Heap {
         if at >= MAX_LENGTH {
             return Err(SetFault::TooLong(item));
         }
-        let Some(place) = v.place() else { unreachable!() };
+        let Some(place) = v.place() else {
+            unreachable!()
+        };
         match place_item(&mut self.cells, place, at, item) {
             Err(back) => Err(SetFault::NoMemory(back)),
             Ok(old) => {
@@ -52,7 +54,9 @@ impl Heap {
         if self.length(v) >= MAX_LENGTH {
             return Err(SetFault::TooLong(item));
         }
-        let Some(place) = v.place() else { unreachable!() };
+        let Some(place) = v.place() else {
+            unreachable!()
+        };
         insert_item(&mut self.cells, place, at, item)
     }
 

@@ -9,8 +9,8 @@ ghost use Rattle.brs_heap.specs.Slots.{slot_at, slot_content, seen};
 ghost use Rattle.brs_heap.specs.Sound.{Written};
 ghost use Rattle.brs_heap.specs.declared.heap.SetFault.TheVariants.{NoMemory};
 
-use crate::{SetFault, Value};
 use crate::cell::{Cell, Content, Entry};
+use crate::{SetFault, Value};
 use slab::Slab;
 
 /// The value of an entry, without its key.
@@ -38,7 +38,12 @@ pub fn put_value(cells: &mut Slab<Cell>, place: usize, at: usize, item: Value) -
 }
 
 /// Puts a new entry at the place where its key would stand. After an `Err` nothing has changed.
-pub fn insert_entry(cells: &mut Slab<Cell>, place: usize, at: usize, entry: Entry) -> Result<(), SetFault>
+pub fn insert_entry(
+    cells: &mut Slab<Cell>,
+    place: usize,
+    at: usize,
+    entry: Entry,
+) -> Result<(), SetFault>
     requires pairs { HoldsPairs (slot_content (slot_at cells.old.slots place)) }
     requires gap { IsGap (keys_in (slot_content (slot_at cells.old.slots place))) entry.key at }
     ensures written { OnOk result (Written cells.old.slots cells.new.slots place (EntriesChange (λ entries. with_key entries entry.key entry.value))) }

@@ -9,8 +9,8 @@ ghost use Rattle.brs_heap.specs.Slots.{slot_at, slot_content, seen};
 ghost use Rattle.brs_heap.specs.Sound.{Written};
 ghost use Rattle.brs_heap.specs.declared.heap.SetFault.TheVariants.{NoMemory};
 
-use crate::{SetFault, Value};
 use crate::cell::{Cell, Content};
+use crate::{SetFault, Value};
 use heap_meaning::Plain;
 use slab::Slab;
 
@@ -36,7 +36,12 @@ fn place_in(items: &mut Vec<Value>, at: usize, item: Value) -> Result<Value, Val
 }
 
 /// Puts the item at a place of the array in this cell, and answers what stood there.
-pub fn place_item(cells: &mut Slab<Cell>, place: usize, at: usize, item: Value) -> Result<Value, Value>
+pub fn place_item(
+    cells: &mut Slab<Cell>,
+    place: usize,
+    at: usize,
+    item: Value,
+) -> Result<Value, Value>
     requires array { HoldsArray (slot_content (slot_at cells.old.slots place)) }
     requires at { at < 2 ^ 20 }
     ensures written { OnOk result (Written cells.old.slots cells.new.slots place (ItemsChange (λ items. placed filler items at item))) }
@@ -57,7 +62,12 @@ pub fn place_item(cells: &mut Slab<Cell>, place: usize, at: usize, item: Value) 
 }
 
 /// Puts the item before those from this place of the array on.
-pub fn insert_item(cells: &mut Slab<Cell>, place: usize, at: usize, item: Value) -> Result<(), SetFault>
+pub fn insert_item(
+    cells: &mut Slab<Cell>,
+    place: usize,
+    at: usize,
+    item: Value,
+) -> Result<(), SetFault>
     requires array { HoldsArray (slot_content (slot_at cells.old.slots place)) }
     requires at { at ≤ length_in (slot_content (slot_at cells.old.slots place)) }
     ensures written { OnOk result (Written cells.old.slots cells.new.slots place (ItemsChange (λ items. insert items at item))) }

@@ -28,8 +28,12 @@ impl Heap {
         ensures unchanged { OnErr result (self.new ≡ self.old) }
         ensures shares { self.new.shares ≡ self.old.shares }
     {
-        let Some(place) = v.place() else { unreachable!() };
-        let Some(entries) = self.entries(v) else { unreachable!() };
+        let Some(place) = v.place() else {
+            unreachable!()
+        };
+        let Some(entries) = self.entries(v) else {
+            unreachable!()
+        };
         match find_key(entries, key) {
             Err(at) => self.add_key(v, place, at, key, item),
             Ok(at) => {
@@ -41,7 +45,14 @@ impl Heap {
     }
 
     /// Puts the item at a key that is new.
-    fn add_key(&mut self, v: &Value, place: usize, at: usize, key: &[u8], item: Value) -> Result<(), SetFault>
+    fn add_key(
+        &mut self,
+        v: &Value,
+        place: usize,
+        at: usize,
+        key: &[u8],
+        item: Value,
+    ) -> Result<(), SetFault>
         requires pairs { HoldsPairs (content_at self.old v.now) }
         requires place { v.now ≡ AtCell place }
         requires gap { IsGap (keys_in (content_at self.old v.now)) (folded key.now) at }
