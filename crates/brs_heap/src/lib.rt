@@ -12,7 +12,6 @@ mod heap;
 mod items;
 mod keys;
 mod maps;
-mod places;
 mod reading;
 mod value;
 

@@ -1,4 +1,6 @@
 //! The happy paths of each call, with ample memory, and the bounds of arrays and keys.
+ghost use Rattle.std.specs.Prelude.{◌≡◌};
+
 use crate::{Heap, Plain, SetFault, Shape, Value};
 use chan_values::{Message, Portable, Text};
 use std::alloc::Global;
@@ -34,7 +36,9 @@ fn answer_of(answer: Result<(), SetFault>) -> u8 {
     }
 }
 
-fn put(heap: &mut Heap, v: &Value, at: usize, n: i32) -> u8 {
+fn put(heap: &mut Heap, v: &Value, at: usize, n: i32) -> u8
+    ensures { heap.new.shares ≡ heap.old.shares }
+{
     if heap.holds_array(v) {
         return answer_of(heap.set(v, at, number(n)));
     }
@@ -48,7 +52,9 @@ fn insert(heap: &mut Heap, v: &Value, at: usize, n: i32) -> u8 {
     3
 }
 
-fn put_key(heap: &mut Heap, v: &Value, key: &str, n: i32) -> u8 {
+fn put_key(heap: &mut Heap, v: &Value, key: &str, n: i32) -> u8
+    ensures { heap.new.shares ≡ heap.old.shares }
+{
     if heap.holds_pairs(v) {
         return answer_of(heap.set_key(v, key.as_bytes(), number(n)));
     }
@@ -151,5 +157,23 @@ fn texts_and_messages_are_read_back(rt: HostRuntime) -> Result<(), Fail> {
     assert!(rt; heap.plain(&message).is_none());
     assert!(rt; heap.plain(&number(3)) == Some(Plain::Small(3)));
     assert!(rt; heap.shape(&number(3)) == Shape::Plain);
+    Ok(())
+}
+
+#[test]
+fn what_is_shared_is_the_same_value(rt: HostRuntime) -> Result<(), Fail> {
+    let mut heap = Heap::new(rt.alloc());
+    let array = heap.make_array()?;
+    let pairs = heap.make_pairs()?;
+    assert_eq!(rt; put(&mut heap, &array, 0, 5), 0);
+    assert_eq!(rt; put_key(&mut heap, &pairs, "k", 6), 0);
+    let again = heap.share(&array);
+    assert_eq!(rt; number_of(&heap, heap.get(&again, 0)), 5);
+    let item = heap.share_item(&array, 0);
+    assert_eq!(rt; number_of(&heap, item.as_ref()), 5);
+    assert!(rt; heap.share_item(&array, 1).is_none());
+    let value = heap.share_key(&pairs, b"K");
+    assert_eq!(rt; number_of(&heap, value.as_ref()), 6);
+    assert!(rt; heap.share_key(&pairs, b"l").is_none());
     Ok(())
 }
