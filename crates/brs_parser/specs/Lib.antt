@@ -1,2 +1,3 @@
 pub mod FaultPlace
 pub mod Answer
+pub mod Parsed

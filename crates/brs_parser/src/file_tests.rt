@@ -6,17 +6,18 @@ use crate::test_sources::{fault_of, parsed, place_of_fault};
 use brs_tokens::{LexAnswer, LexKind, lex};
 use std::alloc::Global;
 use std::test::Fail;
+use std::thread::join;
 
-/// A sub whose second line assigns a value that stands in brackets.
-fn in_brackets(alloc: Global, count: usize) -> Result<String, Fail> {
+/// A sub whose second line assigns a value that stands inside so many forms, each opened and closed by these texts.
+fn in_values(alloc: Global, count: usize, opened: &str, closed: &str) -> Result<String, Fail> {
     let mut source = String::new(alloc);
     source.push_str("sub main()\nx = ")?;
-    for _bracket in 0..count {
-        source.push_str("(")?;
+    for _form in 0..count {
+        source.push_str(opened)?;
     }
     source.push_str("1")?;
-    for _bracket in 0..count {
-        source.push_str(")")?;
+    for _form in 0..count {
+        source.push_str(closed)?;
     }
     source.push_str("\nend sub\n")?;
     Ok(source)
@@ -132,14 +133,12 @@ fn parameters_and_types(rt: HostRuntime) -> Result<(), Fail> {
 #[test]
 fn forms_stand_64_deep_inside_one_another(rt: HostRuntime) -> Result<(), Fail> {
     let alloc = rt.alloc();
-    assert_eq!(rt;
-        place_of_fault(alloc, &in_brackets(alloc, 64)?),
-        Some((0, 0))
-    );
-    assert_eq!(rt;
-        place_of_fault(alloc, &in_brackets(alloc, 65)?),
-        Some((2, 69))
-    );
+    for (opened, closed, column) in [("(", ")", 69), ("- ", "", 133), ("not ", "", 261)] {
+        let good = in_values(alloc, 64, opened, closed)?;
+        assert_eq!(rt; place_of_fault(alloc, &good), Some((0, 0)));
+        let deep = in_values(alloc, 65, opened, closed)?;
+        assert_eq!(rt; place_of_fault(alloc, &deep), Some((2, column)));
+    }
     for (opened, closed, line, column) in [
         ("while x\n", "end while\n", 66, 1),
         ("for i = 1 to 2\n", "next\n", 66, 1),
@@ -174,7 +173,7 @@ fn faults_of_spelling_come_first(rt: HostRuntime) -> Result<(), Fail> {
 /// How many named functions a source file has, and nothing where it has no tree.
 fn count_of_functions(alloc: Global, source: &str) -> Option<usize> {
     match parsed(alloc, source)? {
-        Ok(tree) => Some(tree.functions.len()),
+        Ok(file) => Some(file.tree().functions.len()),
         Err(_) => None,
     }
 }
@@ -195,5 +194,18 @@ fn functions_and_fault_tokens_are_counted(rt: HostRuntime) -> Result<(), Fail> {
         column: 8,
     };
     assert_eq!(rt; fault_of(alloc, "sub f()"), Some(end));
+    Ok(())
+}
+
+fn may_be_shared<T: Send + Sync>(_value: &T) {}
+
+#[test]
+fn parsed_files_cross_threads(rt: HostRuntime) -> Result<(), Fail> {
+    let alloc = rt.alloc();
+    let source = "sub f()\nend sub";
+    let (here, there) = join(&rt, || parsed(alloc, source), || parsed(alloc, source));
+    may_be_shared(&here);
+    assert!(rt; matches!(&here, Some(Ok(file)) if file.tree().functions.len() == 1));
+    assert!(rt; matches!(&there, Some(Ok(file)) if file.tree().functions.len() == 1));
     Ok(())
 }

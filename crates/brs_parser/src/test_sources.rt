@@ -1,21 +1,19 @@
-//! Source files and what `parse` answers for them, for the tests.
+//! Source files and what parsing answers for them, for the tests.
 use crate::tree_text::tree_text;
-use crate::{ParseAnswer, SyntaxFault, parse};
-use brs_grammar::tree::FileTree;
+use crate::{ParseAnswer, ParsedFile, SyntaxFault};
 use brs_tokens::lex;
 use std::alloc::{AllocError, Global};
 use std::test::Fail;
-use token_cursor::discard;
 
-/// What `parse` answers for a source file, and nothing where it has no tokens.
+/// What parsing answers for a source file, and nothing where it has no tokens.
 #[tactic(auto, using(crate::proofs::Places::is_spelled))]
-pub fn parsed(alloc: Global, source: &str) -> Option<Result<FileTree, ParseAnswer>> {
+pub fn parsed(alloc: Global, source: &str) -> Option<Result<ParsedFile, ParseAnswer>> {
     let source = source.as_bytes();
     if source.len() > 1_000_000 {
         return None;
     }
     match lex(alloc, source, 1) {
-        Ok(tokens) => Some(parse(alloc, &tokens)),
+        Ok(tokens) => Some(ParsedFile::parse(alloc, &tokens)),
         Err(_) => None,
     }
 }
@@ -23,10 +21,7 @@ pub fn parsed(alloc: Global, source: &str) -> Option<Result<FileTree, ParseAnswe
 /// The fault of a source file, and nothing where it has a tree or isn't read at all.
 pub fn fault_of(alloc: Global, source: &str) -> Option<SyntaxFault> {
     match parsed(alloc, source)? {
-        Ok(tree) => {
-            discard(tree);
-            None
-        }
+        Ok(_file) => None,
         Err(ParseAnswer::Fault(fault)) => Some(fault),
         Err(ParseAnswer::NoMemory) => None,
     }
@@ -35,10 +30,7 @@ pub fn fault_of(alloc: Global, source: &str) -> Option<SyntaxFault> {
 /// The line and column of the fault of a source file, `(0, 0)` where it has a tree, and nothing where it isn't read at all.
 pub fn place_of_fault(alloc: Global, source: &str) -> Option<(u32, u32)> {
     match parsed(alloc, source)? {
-        Ok(tree) => {
-            discard(tree);
-            Some((0, 0))
-        }
+        Ok(_file) => Some((0, 0)),
         Err(ParseAnswer::Fault(fault)) => Some((fault.line, fault.column)),
         Err(ParseAnswer::NoMemory) => None,
     }
@@ -53,7 +45,7 @@ pub fn place_in_a_sub(alloc: Global, body: &str) -> Result<Option<(u32, u32)>, F
 /// The printed form of a source file's tree, or `no tree`.
 pub fn printed_tree(alloc: Global, source: &str) -> Result<String, AllocError> {
     match parsed(alloc, source) {
-        Some(Ok(tree)) => tree_text(alloc, &tree),
+        Some(Ok(file)) => tree_text(alloc, file.tree()),
         _ => format!(in alloc; "no tree"),
     }
 }

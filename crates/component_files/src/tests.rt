@@ -1,89 +1,73 @@
 //! What no clause says: with ample memory files are read, and the types cross threads.
-use crate::{ComponentAnswer, ComponentFile, read_component};
-use chan_values::Bytes;
+use crate::{
+    ChildElement, ComponentAnswer, ComponentFile, FieldElement, ScriptElement, read_component,
+};
+use chan_values::{Bytes, Text};
 use std::alloc::Global;
 use std::test::Fail;
 
 fn may_be_shared<T: Send + Sync>(_value: &T) {}
 
-/// The line of the first fault, or 0 where the bytes are a component file.
-fn fault_line(alloc: Global, bytes: &[u8]) -> Result<u32, Fail> {
+/// The line of the first fault, 0 where the bytes are a component file, and nothing where they aren't read.
+fn fault_line(alloc: Global, bytes: &[u8]) -> Option<u32> {
     if bytes.len() >= 1000 {
-        return Err("a long file")?;
+        return None;
     }
     match read_component(alloc, bytes) {
-        Ok(_file) => Ok(0),
-        Err(ComponentAnswer::Fault(fault)) => Ok(fault.line),
-        Err(ComponentAnswer::NoMemory) => Err("no memory")?,
+        Ok(_file) => Some(0),
+        Err(ComponentAnswer::Fault(fault)) => Some(fault.line),
+        Err(ComponentAnswer::NoMemory) => None,
     }
 }
 
-fn file_of(alloc: Global, bytes: &[u8]) -> Result<ComponentFile, Fail> {
-    if bytes.len() >= 1000 {
-        return Err("a long file")?;
-    }
-    match read_component(alloc, bytes) {
-        Ok(file) => Ok(file),
-        Err(_) => Err("no component file")?,
-    }
-}
-
-/// The parts, in a component that begins on line 1, with its end tag.
-fn component(alloc: Global, parts: &str) -> Result<Bytes, Fail> {
+/// The same for parts of a component that begins on line 1.
+fn fault_line_of_parts(alloc: Global, parts: &str) -> Option<u32> {
     let mut bytes = Bytes::new(alloc);
-    bytes.push_slice(b"<component name='x'>")?;
-    bytes.push_slice(parts.as_bytes())?;
-    bytes.push_slice(b"</component>")?;
-    Ok(bytes)
+    bytes.push_slice(b"<component name='x'>").ok()?;
+    bytes.push_slice(parts.as_bytes()).ok()?;
+    bytes.push_slice(b"</component>").ok()?;
+    fault_line(alloc, bytes.as_slice())
 }
 
+static WHOLE_FILES: [(&[u8], u32); 27] = [
+    (b"", 1),
+    (b"\n", 2),
+    (b"<component name='x'/>\n", 0),
+    (b"<component name='x'>\r\n", 2),
+    (b"<?xml?><?xml?>", 1),
+    (b"<?xml version=\"1.0\"?>\n<component name='x'/>", 0),
+    (b"\n<?xml?><component name='x'/>", 2),
+    (b"<!-- -- -->\n<?xml?>", 2),
+    (b"\xef\xbb\xbf<?xml?><component name='x'/>", 0),
+    (b"\xef\xbb\xbf\xef\xbb\xbf<component name='x'/>", 1),
+    (b"\n<!DOCTYPE x>", 2),
+    (b"\n<?pi?>", 2),
+    (b"\n<!--->", 2),
+    (b"\n<!-- \xff --><component name='x'/>", 2),
+    (b"\n<component name='\xc3'/>", 2),
+    (b"\n<component name='&#xD800;'/>", 2),
+    (b"<component name='&#x10FFFF;&#0;'/>", 0),
+    (b"\n<component name='&bad;'/>", 2),
+    (b"\n<component name='&amp'/>", 2),
+    (b"\n<component name=''/>", 2),
+    (b"\n<component/>", 2),
+    (b"\n<Component name='x'/>", 2),
+    (b"<component name='x' name='y'/>", 1),
+    (b"<component name='x' Name='y' extends=''/>", 0),
+    (b"<component name='x'>\n</Component>", 2),
+    (b"<component name='x'/>\n<component name='y'/>", 2),
+    (b"<component name='x'/>\n\ny", 1),
+];
+
 #[test]
-fn whole_files_have_their_first_fault(rt: HostRuntime) -> Result<(), Fail> {
-    for (text, line) in [
-        (b"".as_slice(), 1),
-        (b"\n".as_slice(), 2),
-        (b"<component name='x'/>\n".as_slice(), 0),
-        (b"<component name='x'>\r\n".as_slice(), 2),
-        (b"<?xml?><?xml?>".as_slice(), 1),
-        (
-            b"<?xml version=\"1.0\"?>\n<component name='x'/>".as_slice(),
-            0,
-        ),
-        (b"\n<?xml?><component name='x'/>".as_slice(), 2),
-        (b"<!-- -- -->\n<?xml?>".as_slice(), 2),
-        (b"\xef\xbb\xbf<?xml?><component name='x'/>".as_slice(), 0),
-        (
-            b"\xef\xbb\xbf\xef\xbb\xbf<component name='x'/>".as_slice(),
-            1,
-        ),
-        (b"\n<!DOCTYPE x>".as_slice(), 2),
-        (b"\n<?pi?>".as_slice(), 2),
-        (b"\n<!--->".as_slice(), 2),
-        (b"\n<!-- \xff --><component name='x'/>".as_slice(), 2),
-        (b"\n<component name='\xc3'/>".as_slice(), 2),
-        (b"\n<component name='&#xD800;'/>".as_slice(), 2),
-        (b"<component name='&#x10FFFF;&#0;'/>".as_slice(), 0),
-        (b"\n<component name='&bad;'/>".as_slice(), 2),
-        (b"\n<component name='&amp'/>".as_slice(), 2),
-        (b"\n<component name=''/>".as_slice(), 2),
-        (b"\n<component/>".as_slice(), 2),
-        (b"\n<Component name='x'/>".as_slice(), 2),
-        (b"<component name='x' name='y'/>".as_slice(), 1),
-        (b"<component name='x' Name='y' extends=''/>".as_slice(), 0),
-        (b"<component name='x'>\n</Component>".as_slice(), 2),
-        (
-            b"<component name='x'/>\n<component name='y'/>".as_slice(),
-            2,
-        ),
-        (b"<component name='x'/>\n\ny".as_slice(), 1),
-    ] {
-        assert_eq!(rt; fault_line(rt.alloc(), text)?, line);
+fn whole_files_have_their_first_fault(rt: HostRuntime) {
+    for (text, line) in &WHOLE_FILES {
+        assert!(rt; fault_line(rt.alloc(), text) == Some(*line), "{text:?}");
     }
-    Ok(())
 }
 
 #[test]
-fn parts_have_their_first_fault(rt: HostRuntime) -> Result<(), Fail> {
+fn parts_have_their_first_fault(rt: HostRuntime) {
     for (parts, line) in [
         ("\n\n text\n", 1),
         ("\n<!-- -->&#32;", 2),
@@ -124,79 +108,116 @@ fn parts_have_their_first_fault(rt: HostRuntime) -> Result<(), Fail> {
         ("<children>\n<a x:b='' X:b=''/>", 2),
         ("<children>\n<a:b/>", 2),
     ] {
-        let bytes = component(rt.alloc(), parts)?;
-        assert_eq!(rt; fault_line(rt.alloc(), bytes.as_slice())?, line, "{parts}");
+        assert!(rt;
+            fault_line_of_parts(rt.alloc(), parts) == Some(line),
+            "{parts}"
+        );
     }
-    Ok(())
+}
+
+/// The line of the first fault where so many child elements stand inside one another.
+fn fault_line_of_nested(alloc: Global, depth: u8) -> Option<u32> {
+    let mut parts = String::new(alloc);
+    parts.push_str("<children>\n").ok()?;
+    for _level in 0..depth {
+        parts.push_str("<a>").ok()?;
+    }
+    for _level in 0..depth {
+        parts.push_str("</A>").ok()?;
+    }
+    parts.push_str("</children>").ok()?;
+    fault_line_of_parts(alloc, parts.as_str())
 }
 
 #[test]
-fn children_nest_64_deep(rt: HostRuntime) -> Result<(), Fail> {
-    for (depth, line) in [(64u8, 0), (65, 2)] {
-        let mut bytes = Bytes::new(rt.alloc());
-        bytes.push_slice(b"<component name='x'><children>\n")?;
-        for _level in 0..depth {
-            bytes.push_slice(b"<a>")?;
-        }
-        for _level in 0..depth {
-            bytes.push_slice(b"</A>")?;
-        }
-        bytes.push_slice(b"</children></component>")?;
-        assert_eq!(rt; fault_line(rt.alloc(), bytes.as_slice())?, line);
+fn children_nest_64_deep(rt: HostRuntime) {
+    assert!(rt; fault_line_of_nested(rt.alloc(), 64) == Some(0));
+    assert!(rt; fault_line_of_nested(rt.alloc(), 65) == Some(2));
+}
+
+fn file_of(alloc: Global, bytes: &[u8]) -> Option<ComponentFile> {
+    if bytes.len() >= 1000 {
+        return None;
     }
-    Ok(())
+    read_component(alloc, bytes).ok()
+}
+
+/// Whether a text is there, and is this one.
+fn is_there(text: &Option<Text>, want: &str) -> bool {
+    match text {
+        Some(text) => text.as_str() == want,
+        None => false,
+    }
+}
+
+/// Whether a component has this name, what it extends, and this place.
+fn is_component(file: &ComponentFile, name: &str, extends: &str, place: (u32, u32)) -> bool {
+    file.name.as_str() == name
+        && file.extends.as_str() == extends
+        && (file.line, file.column) == place
+}
+
+/// Whether the field is that of the test's component.
+fn is_field(field: &FieldElement) -> bool {
+    field.id.as_str() == "a"
+        && field.word.as_str() == "string"
+        && field.always
+        && field.on_change.is_none()
+        && (field.line, field.column) == (2, 13)
+        && is_there(&field.value, "<\tA")
 }
 
 #[test]
 fn a_component_has_its_tags_texts_and_places(rt: HostRuntime) -> Result<(), Fail> {
     let text =
         b"\xef\xbb\xbf<component name=\"Main\">\r\n <interface><field id=\"a\" type=\"string\" alwaysNotify=\"true\" value=\"&lt;\t&#65;\"/>\n<function name='f'/></interface></component>";
-    let file = file_of(rt.alloc(), text)?;
+    let file = file_of(rt.alloc(), text).ok_or("no component file")?;
     may_be_shared(&file);
-    assert_eq!(rt; file.name.as_str(), "Main");
-    assert_eq!(rt; file.extends.as_str(), "Group");
-    assert_eq!(rt; (file.line, file.column), (1, 4));
-    assert_eq!(rt;
-        (file.fields.len(), file.functions.len(), file.children.len()),
-        (1, 1, 0)
+    assert!(rt; is_component(&file, "Main", "Group", (1, 4)));
+    assert!(rt; file.fields.len() == 1 && file.functions.len() == 1 && file.children.len() == 0);
+    assert!(rt; matches!(file.fields.get(0), Some(field) if is_field(field)));
+    assert!(rt;
+        matches!(file.functions.get(0), Some(function) if function.name.as_str() == "f" && (function.line, function.column) == (3, 1))
     );
-    let field = file.fields.get(0).ok_or("no field")?;
-    assert_eq!(rt; field.id.as_str(), "a");
-    assert_eq!(rt; field.word.as_str(), "string");
-    assert!(rt; field.always);
-    assert!(rt; field.on_change.is_none());
-    assert_eq!(rt; (field.line, field.column), (2, 13));
-    if let Some(value) = &field.value {
-        assert_eq!(rt; value.as_str(), "<\tA");
-    }
-    let function = file.functions.get(0).ok_or("no function")?;
-    assert_eq!(rt; function.name.as_str(), "f");
-    assert_eq!(rt; (function.line, function.column), (3, 1));
     Ok(())
+}
+
+/// Whether the script is that of the test's component.
+fn is_script(script: &ScriptElement) -> bool {
+    let is_inline = match &script.inline {
+        Some(inline) => inline.text.as_str() == "\nprint 1\n" && inline.first_line == 3,
+        None => false,
+    };
+    script.uri.is_none() && (script.line, script.column) == (2, 1) && is_inline
+}
+
+/// Whether the child element has this kind, this place, and so many attributes and children.
+fn is_child(child: &ChildElement, kind: &str, place: (u32, u32), counts: (usize, usize)) -> bool {
+    child.kind.as_str() == kind
+        && (child.line, child.column) == place
+        && (child.attributes.len(), child.children.len()) == counts
+}
+
+/// Whether the child element and what it holds are those of the test's component.
+fn is_label(label: &ChildElement) -> bool {
+    let has_text = match label.attributes.get(0) {
+        Some(attribute) => attribute.name.as_str() == "text" && attribute.value.as_str() == "a\nb",
+        None => false,
+    };
+    let has_group = match label.children.get(0) {
+        Some(group) => is_child(group, "Group", (7, 12), (0, 0)),
+        None => false,
+    };
+    is_child(label, "Label", (6, 11), (1, 1)) && has_text && has_group
 }
 
 #[test]
 fn scripts_and_children_have_their_texts_and_places(rt: HostRuntime) -> Result<(), Fail> {
     let text =
-        b"<component name='x' extends='Scene'>\n<script><![CDATA[\nprint 1\n]]></script>\n<children><Label text='a\nb' x:y=''> <Group/></label></children></component>";
-    let file = file_of(rt.alloc(), text)?;
-    assert_eq!(rt; file.extends.as_str(), "Scene");
-    let script = file.scripts.get(0).ok_or("no script")?;
-    assert!(rt; script.uri.is_none());
-    assert_eq!(rt; (script.line, script.column), (2, 1));
-    if let Some(inline) = &script.inline {
-        assert_eq!(rt; inline.text.as_str(), "\nprint 1\n");
-        assert_eq!(rt; inline.first_line, 2);
-    }
-    let label = file.children.get(0).ok_or("no child")?;
-    assert_eq!(rt; label.kind.as_str(), "Label");
-    assert_eq!(rt; (label.line, label.column), (5, 11));
-    assert_eq!(rt; (label.attributes.len(), label.children.len()), (1, 1));
-    let attribute = label.attributes.get(0).ok_or("no attribute")?;
-    assert_eq!(rt; attribute.name.as_str(), "text");
-    assert_eq!(rt; attribute.value.as_str(), "a\nb");
-    let group = label.children.get(0).ok_or("no child")?;
-    assert_eq!(rt; group.kind.as_str(), "Group");
-    assert_eq!(rt; (group.line, group.column), (6, 12));
+        b"<component name='x' extends='Scene'>\n<script>\n<![CDATA[\nprint 1\n]]></script>\n<children><Label text='a\nb' x:y=''> <Group/></label></children></component>";
+    let file = file_of(rt.alloc(), text).ok_or("no component file")?;
+    assert!(rt; is_component(&file, "x", "Scene", (1, 1)));
+    assert!(rt; matches!(file.scripts.get(0), Some(script) if is_script(script)));
+    assert!(rt; matches!(file.children.get(0), Some(label) if is_label(label)));
     Ok(())
 }

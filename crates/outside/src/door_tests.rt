@@ -3,16 +3,16 @@ ghost use Rattle.std.specs.Prelude.{◌≡◌, ◌<◌, IfOk};
 ghost use Rattle.outside.specs.declared.door.DoorState.TheVariants.{Closed, Listening, Open};
 
 use crate::calls::Calls;
-use crate::door::{Door, DoorState};
+use crate::door::{Connection, Door, DoorState};
 use crate::faults::Failed;
 use crate::memory_door::MemoryDoor;
 use chan_values::Bytes;
-use std::alloc::Global;
+use std::alloc::{AllocError, Global};
 use std::test::Fail;
 
 const REPLY: &[u8; 4] = b"good";
 
-fn calls_failing(alloc: Global, numbers: &[u64]) -> Result<Calls, Fail> {
+fn calls_failing(alloc: Global, numbers: &[u64]) -> Result<Calls, AllocError> {
     Ok(Calls::new(Vec::from_slice(alloc, numbers)?))
 }
 
@@ -106,6 +106,38 @@ fn door_of(
     Ok(door)
 }
 
+/// The calls that were made, and those that failed, at the door and on its connections.
+fn counts(door: &MemoryDoor) -> (u64, u64, u64, u64) {
+    let (calls, others) = (&door.calls, &door.connection_calls);
+    (calls.made, calls.faults, others.made, others.faults)
+}
+
+/// How many bytes a connection has given, what it has taken, and behind how many bytes it failed first, if it failed.
+type Row = (usize, &'static str, Option<usize>);
+
+/// Whether the connections are these.
+fn are_connections(connections: &[Connection], rows: &[Row]) -> bool {
+    for (connection, (given, outgoing, failed_after)) in connections.iter().zip(rows) {
+        if connection.given != *given
+            || connection.outgoing.as_slice() != outgoing.as_bytes()
+            || connection.failed_after != *failed_after
+        {
+            return false;
+        }
+    }
+    connections.len() == rows.len()
+}
+
+/// Whether each connection was read to its end, and no call on it failed.
+fn are_read(connections: &[Connection]) -> bool {
+    for connection in connections {
+        if connection.given != connection.incoming.len() || connection.failed_after.is_some() {
+            return false;
+        }
+    }
+    true
+}
+
 #[test]
 fn each_call_on_a_connection_may_fail(rt: HostRuntime) -> Result<(), Fail> {
     let alloc = rt.alloc();
@@ -113,70 +145,69 @@ fn each_call_on_a_connection_may_fail(rt: HostRuntime) -> Result<(), Fail> {
     // `accept` fails first; the first connection ends before its head, a read fails on the second, and a write on the third
     let mut door = door_of(alloc, 3, &connections, &[1], &[3, 9])?;
     let mut heard = Bytes::new(alloc);
-    assert_eq!(rt; serve_all(&mut door, 80, &mut heard)?, 1);
-    assert_eq!(rt; heard.as_slice(), b"POGETGET /x\n".as_slice());
-    let rows = [
-        (2, b"".as_slice(), None),
-        (3, b"".as_slice(), Some(3)),
-        (7, b"goo".as_slice(), Some(7)),
-    ];
-    assert_eq!(rt; door.connections.len(), rows.len());
-    for (connection, (given, outgoing, failed_after)) in door.connections.iter().zip(rows) {
-        assert_eq!(rt; connection.given, given);
-        assert_eq!(rt; connection.outgoing.as_slice(), outgoing);
-        assert_eq!(rt; connection.failed_after, failed_after);
-    }
-    assert_eq!(rt; door.accepted, 3);
-    assert_eq!(rt; door.state, DoorState::Listening(80));
-    assert_eq!(rt; door.calls.made, 6);
-    assert_eq!(rt; door.calls.faults, 1);
-    assert_eq!(rt; door.connection_calls.made, 10);
-    assert_eq!(rt; door.connection_calls.faults, 2);
+    assert!(rt; serve_all(&mut door, 80, &mut heard) == Ok(1));
+    assert!(rt; heard.as_slice() == b"POGETGET /x\n".as_slice());
+    let rows = [(2, "", None), (3, "", Some(3)), (7, "goo", Some(7))];
+    assert!(rt; are_connections(&door.connections, &rows));
+    assert!(rt; door.accepted == 3 && door.state == DoorState::Listening(80));
+    assert!(rt; counts(&door) == (6, 1, 10, 2));
     Ok(())
+}
+
+/// Whether a door whose calls give and take at most so many bytes reads each connection to its end, and the first one gets
+/// the reply.
+fn are_read_in_pieces(alloc: Global, most: usize) -> Result<bool, Fail>
+    requires { 0 < most }
+{
+    let connections = ["GET /a\n", "", "GET /bcd\n"];
+    let mut door = door_of(alloc, most, &connections, &[], &[])?;
+    let mut heard = Bytes::new(alloc);
+    if serve_all(&mut door, 1, &mut heard) != Ok(0) || !are_read(&door.connections) {
+        return Ok(false);
+    }
+    match door.connections.first() {
+        Some(first) => Ok(
+            first.outgoing.as_slice() == REPLY.as_slice()
+                && heard.as_slice() == b"GET /a\nGET /bcd\n".as_slice(),
+        ),
+        None => Ok(false),
+    }
 }
 
 #[test]
 fn pieces_of_any_size_are_given_and_taken(rt: HostRuntime) -> Result<(), Fail> {
-    let alloc = rt.alloc();
     for most in [1, 2, 3, 4, 5, 100] {
-        let connections = ["GET /a\n", "", "GET /bcd\n"];
-        let mut door = door_of(alloc, most, &connections, &[], &[])?;
-        let mut heard = Bytes::new(alloc);
-        assert_eq!(rt; serve_all(&mut door, 1, &mut heard)?, 0);
-        assert_eq!(rt;
-            heard.as_slice(),
-            b"GET /a\nGET /bcd\n".as_slice(),
-            "{most}"
-        );
-        for connection in &door.connections {
-            assert_eq!(rt; connection.given, connection.incoming.len());
-            assert!(rt; connection.failed_after.is_none());
-        }
-        match door.connections.first() {
-            Some(first) => assert_eq!(rt; first.outgoing.as_slice(), b"good".as_slice()),
-            None => assert!(rt; false),
-        }
+        assert!(rt; are_read_in_pieces(rt.alloc(), most)?, "{most}");
     }
     Ok(())
+}
+
+/// Whether a door without connections whose calls fail where they are told is in this state behind so many failed ones.
+fn nobody_comes(
+    alloc: Global,
+    failing: &[u64],
+    failed: u64,
+    state: DoorState,
+) -> Result<bool, Fail> {
+    let mut door = door_of(alloc, 1, &[], failing, &[])?;
+    let mut heard = Bytes::new(alloc);
+    let is_served = match serve_all(&mut door, 80, &mut heard) {
+        Ok(count) => count == failed,
+        Err(_) => state == DoorState::Closed,
+    };
+    Ok(
+        is_served
+            && door.calls.faults == failed
+            && door.connection_calls.made == 0
+            && door.state == state,
+    )
 }
 
 #[test]
 fn nobody_comes_to_a_door_without_connections(rt: HostRuntime) -> Result<(), Fail> {
     let alloc = rt.alloc();
-    for (failing, failed, state) in [
-        ([].as_slice(), 0, DoorState::Listening(80)),
-        ([0].as_slice(), 1, DoorState::Closed),
-        ([1].as_slice(), 1, DoorState::Listening(80)),
-    ] {
-        let mut door = door_of(alloc, 1, &[], failing, &[])?;
-        let mut heard = Bytes::new(alloc);
-        match serve_all(&mut door, 80, &mut heard) {
-            Ok(count) => assert_eq!(rt; count, failed),
-            Err(_) => assert_eq!(rt; state, DoorState::Closed),
-        }
-        assert_eq!(rt; door.calls.faults, failed);
-        assert_eq!(rt; door.connection_calls.made, 0);
-        assert_eq!(rt; door.state, state);
-    }
+    assert!(rt; nobody_comes(alloc, &[], 0, DoorState::Listening(80))?);
+    assert!(rt; nobody_comes(alloc, &[0], 1, DoorState::Closed)?);
+    assert!(rt; nobody_comes(alloc, &[1], 1, DoorState::Listening(80))?);
     Ok(())
 }

@@ -1,6 +1,6 @@
 use Rattle.std.proofs.Common.{◌≡◌, ap, Err}
 use Rattle.brs_parser.specs.declared.source.ParseAnswer.TheVariants.{Fault}
-use Rattle.parsed_file.proofs.file.ParsedFile.parse.Goals as goal
+use Rattle.brs_parser.proofs.parsed_file.ParsedFile.parse.Goals as goal
 
 pub returns-in-Err-clause-fault : goal.returns-in-Err-clause-fault
 returns-in-Err-clause-fault c fault is =

@@ -1,4 +1,7 @@
-//! A parsed source file.
+//! A parsed source file, which owns its tree.
+//!
+//! A tree is of many types that hold one another, and a crate that drops one makes and proves the steps of that drop anew. What stands above
+//! takes a tree by reference from its owner here, whose drop is one call.
 ghost use Rattle.std.specs.Prelude.{◌≡◌, ℕ, List, Err, IfOk};
 ghost use Rattle.brs_grammar.specs.Grammar.{IsFile, IsFirstFault};
 ghost use Rattle.brs_grammar.specs.declared.tree.NamedFunction.{NamedFunction};
@@ -6,10 +9,10 @@ ghost use Rattle.brs_parser.specs.FaultPlace as spec;
 ghost use Rattle.brs_parser.specs.FaultPlace.{IsSpelled};
 ghost use Rattle.brs_parser.specs.declared.fault.SyntaxFault.{SyntaxFault};
 ghost use Rattle.brs_parser.specs.declared.source.ParseAnswer;
-ghost use Rattle.parsed_file.specs.Parsed.{IsFault, IsParsed};
+ghost use Rattle.brs_parser.specs.Parsed.{IsFault, IsParsed};
 
+use crate::source::{ParseAnswer, parse};
 use brs_grammar::tree::FileTree;
-use brs_parser::{ParseAnswer, parse};
 use brs_tokens::TokenList;
 use std::alloc::Global;
 use std::marker::Model;
@@ -39,7 +42,7 @@ impl Drop for ParsedFile {
 }
 
 impl ParsedFile {
-    /// The parsed file of a source file's tokens, or their first fault, as `brs_parser::parse` finds it.
+    /// The parsed file of a source file's tokens, or their first fault, as `parse` finds it.
     pub fn parse(alloc: Global, tokens: &TokenList<'_>) -> Result<ParsedFile, ParseAnswer>
         requires spelled { IsSpelled tokens.now }
         // What is answered is right.
