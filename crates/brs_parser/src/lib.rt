@@ -10,16 +10,3 @@ mod source;
 pub use fault::SyntaxFault;
 pub use parsed_file::ParsedFile;
 pub use source::{ParseAnswer, parse};
-
-#[cfg(test)]
-mod expression_tests;
-#[cfg(test)]
-mod file_tests;
-#[cfg(test)]
-mod statement_tests;
-#[cfg(test)]
-mod test_sources;
-#[cfg(test)]
-mod tree_tests;
-#[cfg(test)]
-mod tree_text;

@@ -13,6 +13,3 @@ mod run;
 mod script;
 
 pub use run::channel_main;
-
-#[cfg(test)]
-mod tests;

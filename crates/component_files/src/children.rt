@@ -1,7 +1,6 @@
 //! Child elements that are opened and closed.
 ghost use Rattle.std.specs.Prelude.{◌≡◌, Some, None};
 ghost use Rattle.component_files.specs.declared.state.State;
-ghost use Rattle.component_files.specs.Elements as element;
 ghost use Rattle.component_files.specs.Steps as spec;
 ghost use Rattle.xml_pieces.specs.Reads.{Answers};
 
@@ -17,26 +16,6 @@ use xml_pieces::{ReadError, Tag};
 
 /// How many child elements may be open at a place.
 const MAX_DEPTH: usize = 64;
-
-/// A child element whose end has come.
-fn closed(inner: OpenChild) -> ChildElement
-    ensures { result ≡ element.child inner inner.children }
-{
-    let OpenChild {
-        kind,
-        attributes,
-        children,
-        line,
-        column,
-    } = inner;
-    ChildElement {
-        kind,
-        attributes,
-        children,
-        line,
-        column,
-    }
-}
 
 /// The state behind a child element of the innermost element that is open.
 fn with_child(
@@ -86,7 +65,7 @@ pub(crate) fn shut_child(file: ComponentFile, mut stack: Stack) -> Result<State,
 {
     match stack.pop() {
         None => Ok(State::Component(file)),
-        Some(inner) => with_child(file, stack, closed(inner)),
+        Some(inner) => with_child(file, stack, inner.close()),
     }
 }
 
@@ -110,7 +89,7 @@ pub(crate) fn end_child(
             if !are_alike(&inner.kind, name) {
                 return Err(ReadError::Fault);
             }
-            with_child(file, stack, closed(inner))
+            with_child(file, stack, inner.close())
         }
     }
 }

@@ -25,7 +25,6 @@ pub type AttributeTextList = Items<AttributeText>;
 /// A component.
 ///
 /// Source: SceneGraph XML Guide, "component".
-#[derive(Drop)]
 pub struct ComponentFile {
     pub name: Text,
     /// The component that it extends, `Group` where the file names none.
@@ -36,6 +35,22 @@ pub struct ComponentFile {
     pub children: ChildElementList,
     pub line: u32,
     pub column: u32,
+}
+
+// A derived drop is written out at each exit of a function that holds a component; this one is a call.
+impl Drop for ComponentFile {
+    fn drop(self) {
+        let ComponentFile {
+            name: _name,
+            extends: _extends,
+            fields: _fields,
+            functions: _functions,
+            scripts: _scripts,
+            children: _children,
+            line: _line,
+            column: _column,
+        } = self;
+    }
 }
 
 /// A field of the interface.

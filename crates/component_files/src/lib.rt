@@ -24,6 +24,3 @@ pub use element::{
 pub use laws::{file_or_fault, never_both, one_fault, one_file};
 pub use read::{ComponentAnswer, ComponentSyntax, read_component};
 pub use xml_pieces::AttributeText;
-
-#[cfg(test)]
-mod tests;

@@ -9,7 +9,7 @@ ghost use Rattle.component_files.specs.Scan as spec;
 
 use crate::element::ComponentFile;
 use crate::place::{Place, place_after};
-use crate::state::{Progress, State};
+use crate::state::{Progress, State, discard};
 use std::alloc::Global;
 use xml_pieces::{Cursor, ReadError, strip};
 
@@ -51,13 +51,10 @@ fn finish(progress: Progress, line: u32) -> Result<ComponentFile, ComponentAnswe
 {
     match progress {
         Progress::Inside(State::After(file)) => Ok(file),
-        Progress::Start
-        | Progress::Inside(State::Before)
-        | Progress::Inside(State::Component(_))
-        | Progress::Inside(State::Interface(_))
-        | Progress::Inside(State::Member(_, _))
-        | Progress::Inside(State::Script(_, _))
-        | Progress::Inside(State::Children(_, _)) => Err(fault(line)),
+        other => {
+            discard(other);
+            Err(fault(line))
+        }
     }
 }
 

@@ -1,14 +1,14 @@
 //! The child elements that are open.
 ghost use Rattle.std.specs.Prelude.{◌≡◌, [], ◌∷◌, length, OnOk, MatchOption};
+ghost use Rattle.component_files.specs.Elements.{child};
 
-use crate::element::{AttributeTextList, ChildElementList};
+use crate::element::{AttributeTextList, ChildElement, ChildElementList};
 use chan_values::Text;
 use sqlite_items::Items;
 use std::alloc::{AllocError, Global};
 use std::marker::Model;
 
 /// A child element whose end tag is not read yet, with the children that are.
-#[derive(Drop)]
 pub(crate) struct OpenChild {
     pub(crate) kind: Text,
     pub(crate) attributes: AttributeTextList,
@@ -17,10 +17,50 @@ pub(crate) struct OpenChild {
     pub(crate) column: u32,
 }
 
+impl Drop for OpenChild {
+    fn drop(self) {
+        let OpenChild {
+            kind: _kind,
+            attributes: _attributes,
+            children: _children,
+            line: _line,
+            column: _column,
+        } = self;
+    }
+}
+
+impl OpenChild {
+    /// The child element, whose end has come.
+    pub(crate) fn close(self) -> ChildElement
+        ensures { result ≡ child self self.children }
+    {
+        let OpenChild {
+            kind,
+            attributes,
+            children,
+            line,
+            column,
+        } = self;
+        ChildElement {
+            kind,
+            attributes,
+            children,
+            line,
+            column,
+        }
+    }
+}
+
 /// Open child elements, which contracts see as their list from the innermost on.
-#[derive(Drop)]
 pub(crate) struct Stack {
     open: Items<OpenChild>,
+}
+
+// A derived drop is written out at each exit; this one is a call.
+impl Drop for Stack {
+    fn drop(self) {
+        let Stack { open: _open } = self;
+    }
 }
 
 impl Model for Stack {
@@ -54,10 +94,10 @@ impl Stack {
     }
 
     /// Opens a child in the innermost one.
-    pub(crate) fn push(&mut self, child: OpenChild) -> Result<(), AllocError>
-        ensures { OnOk result (self.new ≡ child ∷ self.old) }
+    pub(crate) fn push(&mut self, opened: OpenChild) -> Result<(), AllocError>
+        ensures { OnOk result (self.new ≡ opened ∷ self.old) }
     {
-        self.open.push(child)
+        self.open.push(opened)
     }
 
     /// Takes the innermost child, if one is open.

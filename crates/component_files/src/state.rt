@@ -41,6 +41,9 @@ pub(crate) enum Progress {
     Inside(State),
 }
 
+/// Drops a value of any type, so that no caller holds the steps of that drop.
+pub(crate) fn discard<T: Drop>(_value: T) {}
+
 /// Whether a member's end tag has this name.
 fn ends_member(kind: MemberKind, name: &Text) -> bool
     ensures { result ≡ element.same (spec.member_name kind) name.now }
@@ -61,7 +64,10 @@ impl State {
             State::Component(file) => open_part(alloc, file, &tag, place),
             State::Interface(file) => open_member(alloc, file, &tag, place),
             State::Children(file, stack) => open_child(alloc, file, stack, tag, place),
-            State::Member(_, _) | State::Script(_, _) | State::After(_) => Err(ReadError::Fault),
+            other => {
+                discard(other);
+                Err(ReadError::Fault)
+            }
         }
     }
 
@@ -75,7 +81,10 @@ impl State {
             State::Member(file, _) => Ok(State::Interface(file)),
             State::Script(file, script) => shut_script(file, script),
             State::Children(file, stack) => shut_child(file, stack),
-            State::Before | State::After(_) => Err(ReadError::Fault),
+            other => {
+                discard(other);
+                Err(ReadError::Fault)
+            }
         }
     }
 
@@ -89,7 +98,10 @@ impl State {
             State::Member(file, kind) => end_member(file, kind, name),
             State::Script(file, script) => end_script(file, script, name),
             State::Children(file, stack) => end_child(file, stack, name),
-            State::Before | State::After(_) => Err(ReadError::Fault),
+            other => {
+                discard(other);
+                Err(ReadError::Fault)
+            }
         }
     }
 
@@ -99,12 +111,10 @@ impl State {
     {
         match self {
             State::Script(file, script) => add_data(file, script, text, line),
-            State::Before
-            | State::Component(_)
-            | State::Interface(_)
-            | State::Member(_, _)
-            | State::Children(_, _)
-            | State::After(_) => Err(ReadError::Fault),
+            other => {
+                discard(other);
+                Err(ReadError::Fault)
+            }
         }
     }
 
@@ -115,7 +125,10 @@ impl State {
     {
         match piece {
             Piece::Comment | Piece::Blank => Ok(self),
-            Piece::Declaration | Piece::Stray => Err(ReadError::Fault),
+            Piece::Declaration | Piece::Stray => {
+                discard(self);
+                Err(ReadError::Fault)
+            }
             Piece::Data(text) => self.data(text, place.line),
             Piece::Start(tag) => self.open(alloc, tag, place),
             Piece::Empty(tag) => self.open(alloc, tag, place)?.shut(),

@@ -8,8 +8,6 @@
 
 pub mod calls;
 pub mod door;
-#[cfg(test)]
-mod door_tests;
 pub mod faults;
 pub mod files;
 pub mod laws;
@@ -21,5 +19,3 @@ pub mod paths;
 pub mod refusal;
 pub mod status;
 pub mod streams;
-#[cfg(test)]
-mod tests;

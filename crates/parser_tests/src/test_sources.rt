@@ -1,12 +1,12 @@
 //! Source files and what parsing answers for them, for the tests.
 use crate::tree_text::tree_text;
-use crate::{ParseAnswer, ParsedFile, SyntaxFault};
+use brs_parser::{ParseAnswer, ParsedFile, SyntaxFault};
 use brs_tokens::lex;
 use std::alloc::{AllocError, Global};
 use std::test::Fail;
 
 /// What parsing answers for a source file, and nothing where it has no tokens.
-#[tactic(auto, using(crate::proofs::Places::is_spelled))]
+#[tactic(auto, using(brs_parser::proofs::Places::is_spelled))]
 pub fn parsed(alloc: Global, source: &str) -> Option<Result<ParsedFile, ParseAnswer>> {
     let source = source.as_bytes();
     if source.len() > 1_000_000 {

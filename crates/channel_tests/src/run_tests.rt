@@ -1,8 +1,8 @@
 //! What no clause says: whole runs over the forms in memory, and what is called where a call fails.
 ghost use Rattle.std.specs.Prelude.{◌≡◌};
 
-use crate::channel_main;
 use chan_values::{Bytes, Text};
+use channel_run::channel_main;
 use outside::calls::Calls;
 use outside::door::{Door, DoorState};
 use outside::files::{FileBytes, Files};

@@ -1,17 +1,17 @@
 //! What no clause says: the happy paths, and that the forms in memory fail where they are told to.
 ghost use Rattle.std.specs.Prelude.{◌≡◌, ◌<◌, length, IfOk};
 
-use crate::calls::Calls;
-use crate::faults::{Failed, FilesFault};
-use crate::files::{FileBytes, FileRead, Files};
-use crate::listing::{Listing, listing_of};
-use crate::memory_files::MemoryFiles;
-use crate::memory_streams::{MemorySink, MemorySource};
-use crate::paths::{is_read, whole_path};
-use crate::refusal::write_fault;
-use crate::status::Status;
-use crate::streams::{Sink, Source};
 use chan_values::{Bytes, FolderFault, NoMemory, Text};
+use outside::calls::Calls;
+use outside::faults::{Failed, FilesFault};
+use outside::files::{FileBytes, FileRead, Files};
+use outside::listing::{Listing, listing_of};
+use outside::memory_files::MemoryFiles;
+use outside::memory_streams::{MemorySink, MemorySource};
+use outside::paths::{is_read, whole_path};
+use outside::refusal::write_fault;
+use outside::status::Status;
+use outside::streams::{Sink, Source};
 use std::alloc::{AllocError, Global};
 use std::test::Fail;
 
@@ -166,7 +166,7 @@ fn paths_in_order_are_a_listing(rt: HostRuntime) {
     }
 }
 
-#[tactic(auto, using(crate::proofs::Listed::listed_is_readable))]
+#[tactic(auto, using(outside::proofs::Listed::listed_is_readable))]
 fn read_at_most<F: Files>(
     alloc: Global,
     files: &mut F,

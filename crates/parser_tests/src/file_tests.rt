@@ -1,8 +1,8 @@
 //! Good and faulty files, parameters and types, and how deep forms may stand inside one another.
 //!
 //! A row of a table is a source, and the line and column of its fault, or 0 and 0 where it has a tree. Each fault was found by hand.
-use crate::SyntaxFault;
 use crate::test_sources::{fault_of, parsed, place_of_fault};
+use brs_parser::SyntaxFault;
 use brs_tokens::{LexAnswer, LexKind, lex};
 use std::alloc::Global;
 use std::test::Fail;

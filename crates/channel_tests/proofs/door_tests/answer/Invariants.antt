@@ -1,6 +1,6 @@
 use Rattle.std.proofs.Common.{◌≡◌, ◌≤◌, ◌-◌, length}
 use Rattle.outside.specs.declared.door.DoorState.TheVariants.{Open}
-use Rattle.outside.proofs.door_tests.answer.Given as goal
+use Rattle.channel_tests.proofs.door_tests.answer.Given as goal
 
 abbrev pub invariant-loop-written : goal.invariant-loop-written
 invariant-loop-written g l =

@@ -1,6 +1,6 @@
 use Rattle.std.proofs.Common.{◌≡◌, ◌≤◌}
 use Rattle.outside.specs.declared.door.DoorState.TheVariants.{Listening}
-use Rattle.outside.proofs.door_tests.serve_all.Given as goal
+use Rattle.channel_tests.proofs.door_tests.serve_all.Given as goal
 
 abbrev pub invariant-loop : goal.invariant-loop
 invariant-loop g l =

@@ -1,8 +1,8 @@
 //! What no clause says: with ample memory files are read, and the types cross threads.
-use crate::{
+use chan_values::{Bytes, Text};
+use component_files::{
     ChildElement, ComponentAnswer, ComponentFile, FieldElement, ScriptElement, read_component,
 };
-use chan_values::{Bytes, Text};
 use std::alloc::Global;
 use std::test::Fail;
 

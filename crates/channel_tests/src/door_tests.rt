@@ -2,11 +2,11 @@
 ghost use Rattle.std.specs.Prelude.{◌≡◌, ◌<◌, IfOk};
 ghost use Rattle.outside.specs.declared.door.DoorState.TheVariants.{Closed, Listening, Open};
 
-use crate::calls::Calls;
-use crate::door::{Connection, Door, DoorState};
-use crate::faults::Failed;
-use crate::memory_door::MemoryDoor;
 use chan_values::Bytes;
+use outside::calls::Calls;
+use outside::door::{Connection, Door, DoorState};
+use outside::faults::Failed;
+use outside::memory_door::MemoryDoor;
 use std::alloc::{AllocError, Global};
 use std::test::Fail;
 
