@@ -35,7 +35,7 @@ pub count_whole : {A : Type 0} (one : A → Option Tree) (items : List A) (at be
 count_whole one items at before left f e = record { trees = f.trees; are = each_whole one items at (Some f.trees) f.are e; taken = f.taken }
 
 -- the count of an item stopped
-pub count_stops : {A D E : Type 0} (one : A → Option Tree) (items : List A) (at before left left' : ℕ) (a : A) (fault : Excess) → Counting one items at before left → slice_get items at ≡ Some a → Counts {D = D} (one a) left left' (Err fault) → CountsAll {D = E} (each one items) before left' (Err fault)
+pub count_stops : {A : Type 0} (one : A → Option Tree) (items : List A) (at before left left' : ℕ) (a : A) (fault : Excess) → Counting one items at before left → slice_get items at ≡ Some a → Counts (one a) left left' (Err fault) → CountsAll (each one items) before left' (Err fault)
 count_stops one items at before left left' a TooDeep f g e = none_of one items at a g e
 count_stops one items at before left left' a TooLarge f g e =
     λ ws p. let m = amid one items at a f.trees ws p f.are g in let l = e m.tree m.its in let n = m.less in let c = f.taken in omega arith
@@ -44,7 +44,7 @@ pub single_counted : (h : Heap) (v : Value) (bound before left : ℕ) → IsSing
 single_counted h v bound before left s l = record { tree = Leaf s.plain; is = within_single h v bound s.plain s.is; taken = l }
 
 -- the items of a value are counted, or their count stopped
-pub items_counted : {D : Type 0} (h : Heap) (v : Value) (bound before inner after : ℕ) (r : Result D Excess) → 0 < bound → inner + 1 ≡ before → IsHolding h v → CountsAll {D = D} (each (tree_within (form_at h) (bound - 1)) (children_in (content_at h v))) inner after r → Counts {D = D} (tree_within (form_at h) bound v) before after r
+pub items_counted : (h : Heap) (v : Value) (bound before inner after : ℕ) (r : Result (Unit {0}) Excess) → 0 < bound → inner + 1 ≡ before → IsHolding h v → CountsAll (each (tree_within (form_at h) (bound - 1)) (children_in (content_at h v))) inner after r → Counts (tree_within (form_at h) bound v) before after r
 items_counted h v bound before inner after (Ok done) l m k c = record {
   tree = Branch k.kind c.trees;
   is = within_holds h v bound k.kind (children_in (content_at h v)) l k.is ∙ ap (option_map (Branch k.kind)) c.are;

@@ -1,8 +1,18 @@
 -- What holds while the items of a value that keeps the bounds are copied.
-use Rattle.std.proofs.Common.{◌≡◌, ℕ, zero, suc, ◌+◌, ◌-◌, ◌<◌, ◌≤◌, max, List, [], ◌∷◌, ◌++◌, take, length, Option, Some, None, refl, sym, ap, ◌∙◌, subst, arith}
-use Rattle.std.specs.Prelude.{slice_get, option_map}
-use Rattle.chan_values.specs.Tree.{Kind, Array, Tree, Leaf, Branch, Trees, trees, none, parts, all_parts, depth, deepest, array_of}
-use Rattle.chan_values.specs.Portable.{IsBounded}
+use Rattle.std.proofs.Common.{◌≡◌, ℕ, zero, suc, ◌+◌, ◌-◌, ◌<◌, ◌≤◌, max, List, [], ◌∷◌, ◌++◌, take, length, Option, Some, None, Result, Ok, Err, refl, sym, ap, ◌∙◌, subst, arith}
+use Rattle.std.specs.Prelude.{slice_get, option_map, IfOk}
+use Rattle.std.proofs.lemmas.List.{map-append}
+use Rattle.std.specs.List.{AllByRecursion}
+use Rattle.std.specs.List.Sorted.{IsStrictlySortedBy}
+use Rattle.std.specs.Ordering.{nat_cmp}
+use Rattle.std.specs.Cmp.Lexicographic.{slice_cmp}
+use Rattle.std.specs.declared.cmp.Ordering.TheVariants.{Less}
+use Rattle.chan_values.specs.Folded.{folded}
+use Rattle.chan_values.specs.Tree.{Kind, Array, Tree, Leaf, Branch, Trees, trees, none, parts, all_parts, depth, deepest, array_of, TreePair, values_of, pairs_of}
+use Rattle.chan_values.specs.declared.portable.Portable.{Portable}
+use Rattle.chan_values.specs.declared.NoMemory.{NoMemory}
+use Rattle.chan_values.specs.View.{tree_of}
+use Rattle.chan_values.specs.Portable.{IsBounded, IsKeyList}
 use Rattle.chan_values.proofs.Walk.{deepest_more, parts_more}
 use Rattle.heap_meaning.specs.Values.{Value}
 use Rattle.heap_meaning.specs.Heap.{Heap, content_at}
@@ -58,3 +68,32 @@ items_fit h v bound k f = go (each (tree_within (form_at h) (bound - 1)) (childr
 -- the copy of an array or associative array, from those of its items
 pub items_filled : (h : Heap) (v : Value) (bound : ℕ) (k : Kind) (ts : Trees) → 0 < bound → (items : List Value) → form_at h v ≡ Holds k items → each (tree_within (form_at h) (bound - 1)) items ≡ Some ts → tree_within (form_at h) bound v ≡ Some (Branch k ts)
 items_filled h v bound k ts l items e g = within_holds h v bound k items l e ∙ ap (option_map (Branch k)) g
+
+-- the first keys are in order
+all_front : (P : List ℕ → Type 0) (keys : List (List ℕ)) (n : ℕ) → AllByRecursion P keys → AllByRecursion P (take n keys)
+all_front P [] zero h = tt
+all_front P [] (suc n) h = tt
+all_front P (k ∷ keys) zero h = tt
+all_front P (k ∷ keys) (suc n) h = (h.0, all_front P keys n h.1)
+
+ascending_front : (keys : List (List ℕ)) (n : ℕ) → IsStrictlySortedBy (slice_cmp nat_cmp) keys → IsStrictlySortedBy (slice_cmp nat_cmp) (take n keys)
+unfolding IsStrictlySortedBy
+ascending_front [] zero h = tt
+ascending_front [] (suc n) h = tt
+ascending_front (k ∷ keys) zero h = tt
+ascending_front (k ∷ keys) (suc n) h = (all_front (λ l. slice_cmp nat_cmp k l ≡ Less) keys n h.0, ascending_front keys n h.1)
+
+pub keys_front : (keys : List (List ℕ)) (n : ℕ) → IsKeyList keys → IsKeyList (take n keys)
+keys_front keys n h = record { folded = all_front (λ k. folded k ≡ k) keys n h.folded; ascending = ascending_front keys n h.ascending }
+
+-- a text is whole at any depth
+pub words_filled : (h : Heap) (v : Value) (bound : ℕ) (r : Result Portable NoMemory) → IfOk r (λ p. (n : ℕ) → tree_within (form_at h) n v ≡ Some (tree_of p)) → IfOk r (λ p. tree_within (form_at h) bound v ≡ Some (tree_of p))
+words_filled h v bound (Ok p) e = e bound
+words_filled h v bound (Err fault) e = tt
+
+-- pairs keep the bounds where their values do as the items of an array
+pub pairs_bounded : (ps : List TreePair) (p : TreePair) → IsBounded (array_of (values_of ps ++ p.tree ∷ [])) → IsBounded (pairs_of (ps ++ p ∷ []))
+pairs_bounded ps p b =
+    let e : values_of (ps ++ p ∷ []) ≡ values_of ps ++ p.tree ∷ [] = map-append (λ q. q.tree) ps (p ∷ []) in
+    let k = subst (λ ts. IsBounded (array_of ts)) (sym e) b in
+    record { depth = k.depth; parts = k.parts }

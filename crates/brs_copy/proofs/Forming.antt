@@ -1,6 +1,6 @@
 -- What a value is, by its shape, and its tree within a bound.
-use Rattle.std.proofs.Common.{◌≡◌, ℕ, zero, suc, ◌-◌, ◌<◌, List, length, Option, Some, None, refl, sym, ap, ◌∙◌, arith}
-use Rattle.std.specs.Prelude.{option_map}
+use Rattle.std.proofs.Common.{◌≡◌, ℕ, zero, suc, ◌-◌, ◌<◌, ◌≤◌, List, [], ◌∷◌, length, Option, Some, None, refl, sym, ap, ◌∙◌, arith}
+use Rattle.std.specs.Prelude.{option_map, slice_get}
 use Rattle.std.proofs.lemmas.List.{length-map}
 use Rattle.chan_values.specs.Tree as t
 use Rattle.chan_values.specs.Tree.{Kind, Array, Keyed, Tree, Leaf, Branch, parts}
@@ -138,3 +138,15 @@ holding_pairs h v e = record { kind = Keyed (keys_in (content_at h v)); is = for
 pub one_part : (t : Tree) → 0 < parts t
 one_part (Leaf p) = omega arith
 one_part (Branch k ts) = omega arith
+
+-- below the length there is an item, and at the length there is none more
+pub some_child : (o : Option Content) (i n : ℕ) → i < n → n ≡ length_in o → None ≡ slice_get (children_in o) i → ⊥
+some_child o i n l m e = past (children_in o) i (let q = children_length o in omega arith) (sym e)
+  where
+    past : (vs : List Value) (i : ℕ) → i < length vs → slice_get vs i ≡ None → ⊥
+    past [] i l e = absurd (omega arith)
+    past (v ∷ vs) zero l e = absurd cc
+    past (v ∷ vs) (suc i) l e = past vs i (omega arith) e
+
+pub all_children : (o : Option Content) (i n : ℕ) → n ≤ i → i ≤ n → n ≡ length_in o → i ≡ length (children_in o)
+all_children o i n k l m = let q = children_length o in omega arith

@@ -17,13 +17,13 @@ pub record CountedAll (os : Option Trees) (before after : ℕ) : Type 0 where
   pub taken : after + all_parts trees ≡ before
 
 -- on a value with this tree, None where it is too deep
-abbrev pub Counts : {D : Type 0} → Option Tree → ℕ → ℕ → Result D Excess → Type 0
+abbrev pub Counts : Option Tree → ℕ → ℕ → Result (Unit {0}) Excess → Type 0
 Counts o before after (Ok done) = Counted o before after
 Counts o before after (Err TooDeep) = o ≡ None
 Counts o before after (Err TooLarge) = (t : Tree) → o ≡ Some t → before < parts t
 
 -- on items with these trees
-abbrev pub CountsAll : {D : Type 0} → Option Trees → ℕ → ℕ → Result D Excess → Type 0
+abbrev pub CountsAll : Option Trees → ℕ → ℕ → Result (Unit {0}) Excess → Type 0
 CountsAll os before after (Ok done) = CountedAll os before after
 CountsAll os before after (Err TooDeep) = os ≡ None
 CountsAll os before after (Err TooLarge) = (ts : Trees) → os ≡ Some ts → before < all_parts ts
