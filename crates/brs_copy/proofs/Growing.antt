@@ -7,7 +7,6 @@ use Rattle.std.proofs.lemmas.List.{length-map}
 use Rattle.chan_values.specs.Folded.{folded}
 use Rattle.chan_values.specs.Portable.{IsKeyList}
 use Rattle.chan_values.specs.Tree.{Kind, Array, Keyed}
-use Rattle.chan_values.proofs.Order.{last_key}
 use Rattle.heap_meaning.specs.Values.{Value, Direct, Cell, StoreValue, Reference, Entry, filler, filler_meant}
 use Rattle.heap_meaning.specs.Keys.{keys_of, placed, with_key, is_before, value_at_key, IsGap}
 use Rattle.heap_meaning.specs.Store.{ArrayObject, MapObject, Store}

@@ -1,22 +1,30 @@
 -- What holds while items are laid down.
 use Rattle.std.proofs.Common.{◌≡◌, ◌≢◌, ℕ, suc, ◌+◌, ◌<◌, ◌≤◌, List, [], ◌∷◌, ◌++◌, take, map, length, length-append, append-nil, Option, Some, None, refl, sym, ap, ◌∙◌, subst, arith}
-use Rattle.std.specs.Prelude.{slice_get, slice_set}
+use Rattle.std.specs.Prelude.{slice_get, slice_set, option_map}
+use Rattle.std.proofs.lemmas.List.{map-append, length-map, length-take-le}
+use Rattle.chan_values.specs.declared.portable.Portable.{Portable}
+use Rattle.chan_values.specs.View.{tree_of}
 use Rattle.chan_values.specs.Tree as t
-use Rattle.chan_values.specs.Tree.{Kind, Array, Keyed, Tree, Leaf, Branch, trees}
+use Rattle.chan_values.specs.Tree.{Kind, Array, Keyed, Tree, Leaf, Branch, trees, all_parts, TreePair, keys_of, values_of, array_of, pairs_of}
+use Rattle.chan_values.specs.Folded.{folded}
+use Rattle.chan_values.specs.Portable.{IsBounded, IsKeyList}
+use Rattle.chan_values.proofs.Fronts.{keys_front}
+use Rattle.chan_values.proofs.Order.{last_key}
 use Rattle.heap_meaning.specs.declared.plain.Plain.{Plain}
 use Rattle.heap_meaning.specs.Values.{Value, Direct, Cell, StoreValue, Scalar, Words, Reference}
 use Rattle.heap_meaning.specs.Store.{Store}
 use Rattle.heap_meaning.specs.Cells as c
 use Rattle.heap_meaning.specs.Cells.{HeldCell, cell_at, count_at, count_of, occurrence}
 use Rattle.heap_meaning.specs.Stands.{Naming, Outside, Stands, meaning}
-use Rattle.heap_meaning.specs.Heap.{Heap, Made, MakesText, MakesObject, Belongs, content_at}
-use Rattle.heap_meaning.specs.Reading.{HoldsArray, HoldsPairs, length_in}
-use Rattle.heap_meaning.specs.Framing.{Fresh, Keeps}
+use Rattle.heap_meaning.specs.Heap.{Heap, Made, MakesText, MakesObject, SetsItem, SetsKey, Belongs, content_at}
+use Rattle.heap_meaning.specs.Reading.{length_in}
+use Rattle.heap_meaning.specs.Framing.{Fresh, Grows, GrowsByKey, Keeps}
 use Rattle.heap_meaning.proofs.Counts.{occurrence_self}
 use Rattle.heap_meaning.proofs.Steps.{stands_same}
 use Rattle.copy_meaning.specs.Laying.{arriving, all_containers, laid, all_laid, object_of, objects, all_objects, LaysDown, with_tree}
 use Rattle.copy_meaning.proofs.Numbers.{all_objects_length, laid_more, objects_more, laid_length}
-use Rattle.brs_copy.proofs.Growing.{Filled, Put, Puts}
+use Rattle.brs_copy.proofs.Growing.{Filled, Puts, item_puts, value_puts}
+use Rattle.brs_copy.proofs.Forming.{one_part}
 
 set_amid : {A : Type 0} (xs : List A) (x y : A) (ys zs : List A) → slice_set ((xs ++ x ∷ ys) ++ zs) (length xs) y ≡ xs ++ y ∷ (ys ++ zs)
 set_amid [] x y ys zs = refl
@@ -104,27 +112,47 @@ lay_more old one two new v k k' ts w t l item_lays keeps puts =
       lays = lays_more old one two new v k k' ts w t l.lays item_lays (laying_belongs old one two v k ts l keeps) l.place l.is puts;
     }
 
--- what is there for the next item
-laying_content : (old one two : Heap) (v : Value) (k : Kind) (ts : List Tree) (l : Laying old one v k ts) → Keeps one two → content_at two v ≡ Some l.cell.content
-laying_content old one two v k ts l keeps = ap (content_at two) l.is ∙ ap (λ o. elim o as (λ _. Option c.Content) [ None ↦ None | Some d ↦ Some d.content ]) (keeps l.place l.cell l.holds)
+-- one item more is in the array
+pub item_laid : (old one two new : Heap) (v : Value) (ts : List Tree) (i : ℕ) (w : Value) (t : Tree) → Laying old one v Array (take i ts) → i ≤ length ts → LaysDown one two w t → Keeps one two → SetsItem two new v i w → Grows two new v i w → take (i + 1) ts ≡ take i ts ++ t ∷ [] → Laying old new v Array (take (i + 1) ts)
+item_laid old one two new v ts i w t l le lays keeps sets grows e =
+    let n : i ≡ length (take i ts) = sym (length-take-le i ts le) in
+    let puts : Puts two new v Array Array (length (take i ts)) w = subst (λ m. Puts two new v Array Array m w) n (item_puts two new v i w sets grows) in
+    subst (Laying old new v Array) (sym e) (lay_more old one two new v Array Array (take i ts) w t l lays keeps puts)
 
-pub laying_array : (old one two : Heap) (v : Value) (ts : List Tree) → Laying old one v Array ts → Keeps one two → HoldsArray (content_at two v)
-laying_array old one two v ts l keeps = subst HoldsArray (sym (laying_content old one two v Array ts l keeps)) (go l.cell.content l.content)
-  where
-    go : (x : c.Content) → Filled Array x (length ts) → HoldsArray (Some x)
-    go (c.Text b) f = absurd f
-    go (c.Message m) f = absurd f
-    go (c.Pairs es) f = absurd f
-    go (c.Array vs) f = tt
+-- one pair more is in the associative array
+pub pair_laid : (old one two new : Heap) (v : Value) (ps : List TreePair) (i : ℕ) (w : Value) (p : TreePair) → Laying old one v (Keyed (keys_of (take i ps))) (values_of (take i ps)) → LaysDown one two w p.tree → Keeps one two → IsKeyList (keys_of ps) → SetsKey two new v p.key w → GrowsByKey two new v (folded p.key) w → take (i + 1) ps ≡ take i ps ++ p ∷ [] → Laying old new v (Keyed (keys_of (take (i + 1) ps))) (values_of (take (i + 1) ps))
+pair_laid old one two new v ps i w p l lays keeps ordered sets grows e =
+    let keys : keys_of (take (i + 1) ps) ≡ keys_of (take i ps) ++ p.key ∷ [] = ap keys_of e ∙ map-append (λ q. q.key) (take i ps) (p ∷ []) in
+    let values : values_of (take (i + 1) ps) ≡ values_of (take i ps) ++ p.tree ∷ [] = ap values_of e ∙ map-append (λ q. q.tree) (take i ps) (p ∷ []) in
+    let follows : IsKeyList (keys_of (take i ps) ++ p.key ∷ []) = subst IsKeyList keys (keys_front ps (i + 1) ordered) in
+    let long : length (keys_of (take i ps)) ≡ length (values_of (take i ps)) = length-map (take i ps) (λ q. q.key) ∙ sym (length-map (take i ps) (λ q. q.tree)) in
+    let puts = value_puts two new v (keys_of (take i ps)) p.key (length (values_of (take i ps))) w (last_key (keys_of (take i ps)) p.key follows).0 follows long sets grows in
+    subst (λ ks. Laying old new v (Keyed ks) (values_of (take (i + 1) ps))) (sym keys)
+    (subst (Laying old new v (Keyed (keys_of (take i ps) ++ p.key ∷ []))) (sym values) (lay_more old one two new v (Keyed (keys_of (take i ps))) (Keyed (keys_of (take i ps) ++ p.key ∷ [])) (values_of (take i ps)) w p.tree l lays keeps puts))
 
-pub laying_pairs : (old one two : Heap) (v : Value) (ks : List (List ℕ)) (ts : List Tree) → Laying old one v (Keyed ks) ts → Keeps one two → HoldsPairs (content_at two v) × (length_in (content_at two v) ≡ length ts)
-laying_pairs old one two v ks ts l keeps = subst (λ o. HoldsPairs o × (length_in o ≡ length ts)) (sym (laying_content old one two v (Keyed ks) ts l keeps)) (go l.cell.content l.content)
+-- as many keys as items are in the associative array
+pub pairs_there : (old one two : Heap) (v : Value) (ks : List (List ℕ)) (ts : List Tree) → Laying old one v (Keyed ks) ts → Keeps one two → length_in (content_at two v) ≡ length ts
+pairs_there old one two v ks ts l keeps = ap length_in there ∙ go l.cell.content l.content
   where
-    go : (x : c.Content) → Filled (Keyed ks) x (length ts) → HoldsPairs (Some x) × (length_in (Some x) ≡ length ts)
+    there : content_at two v ≡ Some l.cell.content
+    there = ap (content_at two) l.is ∙ ap (option_map (λ (c : HeldCell). c.content)) (keeps l.place l.cell l.holds)
+
+    go : (x : c.Content) → Filled (Keyed ks) x (length ts) → length_in (Some x) ≡ length ts
     go (c.Text b) f = absurd f
     go (c.Message m) f = absurd f
     go (c.Array vs) f = absurd f
-    go (c.Pairs es) f = (tt, f.1)
+    go (c.Pairs es) f = f.1
+
+-- a list that keeps the bounds is short
+few : (ts : List Tree) → length ts ≤ all_parts (trees ts)
+few [] = omega arith
+few (t ∷ ts) = let r = few ts in let p = one_part t in omega arith
+
+pub few_items : (ts : List Tree) → IsBounded (array_of ts) → length ts < 65536
+few_items ts b = let f = few ts in let p = b.parts in omega arith
+
+pub few_pairs : (ps : List TreePair) → IsBounded (pairs_of ps) → length ps < 65536
+few_pairs ps b = let f = few (values_of ps) in let p = b.parts in let n = length-map ps (λ q. q.tree) in omega arith
 
 -- a plain value needs no object
 pub plain_lays : (h : Heap) (plain : Plain) (p : t.Plain) → Scalar plain ≡ arriving p → LaysDown h h (Direct plain) (Leaf p)
@@ -142,3 +170,8 @@ text_lays old new v bytes m name store before after s out =
 
 pub text_keeps : (old new : Heap) (v : Value) (bytes : List ℕ) → Fresh old new v (c.Text bytes) → Keeps old new
 text_keeps old new v bytes f = fresh_keeps old new v (c.Text bytes) f
+
+-- a portable value that is plain, laid down as this value
+pub plain_lays_as : (h : Heap) (v : Value) (plain : Plain) (p : t.Plain) (given : Portable) → v ≡ Direct plain → Scalar plain ≡ arriving p → (one : Portable) → given ≡ one → tree_of one ≡ Leaf p → LaysDown h h v (tree_of given)
+plain_lays_as h v plain p given e f one g k =
+    subst (λ w. LaysDown h h w (tree_of given)) (sym e) (subst (LaysDown h h (Direct plain)) (sym (ap tree_of g ∙ k)) (plain_lays h plain p f))
