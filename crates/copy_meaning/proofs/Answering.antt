@@ -1,9 +1,9 @@
 -- Of the three answers exactly one is given.
-use Rattle.std.proofs.Common.{◌≡◌, ℕ, suc, ◌+◌, ◌<◌, ◌≤◌, ◌⊎◌, inl, inr, Option, Some, None, Bool, true, false, cond, nat_lt, refl, sym, ap, ◌∙◌, subst, arith, add-one}
+use Rattle.std.proofs.Common.{◌≡◌, ℕ, suc, ◌+◌, ◌<◌, ◌≤◌, Option, Some, None, Bool, true, false, cond, nat_lt, refl, sym, ap, ◌∙◌, subst, arith, add-one}
 use Rattle.chan_values.specs.Tree.{Tree, depth, parts}
 use Rattle.copy_meaning.specs.Unfolding.{Form, Chain, Unfolds}
 use Rattle.copy_meaning.specs.Bounded.{tree_within}
-use Rattle.copy_meaning.specs.Answers.{Answer, Copy, TooDeep, TooLarge, Answers, too_deep, too_large, whole, answer_of, Leaves, unfolded}
+use Rattle.copy_meaning.specs.Answers.{Answer, Copy, TooLarge, Answers, too_deep, too_large, whole, answer_of, Leaves, unfolded}
 use Rattle.std.proofs.lemmas.Bool.Decides.{nat_tests}
 use Rattle.heap_meaning.specs.Values.{StoreValue}
 use Rattle.heap_meaning.specs.Store.{Store}

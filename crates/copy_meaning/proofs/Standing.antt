@@ -1,5 +1,5 @@
 -- The cells of a heap unfold as the store for which it stands.
-use Rattle.std.proofs.Common.{◌≡◌, ℕ, ◌<◌, List, [], ◌∷◌, map, Option, Some, None, refl, ap, ◌∙◌}
+use Rattle.std.proofs.Common.{◌≡◌, ℕ, List, [], ◌∷◌, map, Option, Some, None, refl, ap, ◌∙◌}
 use Rattle.std.specs.Prelude.{slice_get}
 use Rattle.chan_values.specs.Tree.{Kind, Keyed}
 use Rattle.heap_meaning.specs.Values.{Value, Direct, Cell, StoreValue, Entry}

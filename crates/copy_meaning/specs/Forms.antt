@@ -1,5 +1,5 @@
 -- What each value is when it leaves its actor, in a store and in a heap.
-use Rattle.std.specs.Prelude.{map, Option, Some, None, slice_get}
+use Rattle.std.specs.Prelude.{Option, Some, None, slice_get}
 use Rattle.chan_values.specs.Tree as t
 use Rattle.chan_values.specs.Tree.{Array, Keyed}
 use Rattle.heap_meaning.specs.declared.plain.Plain.{Plain}
