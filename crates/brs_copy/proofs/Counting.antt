@@ -1,7 +1,7 @@
 -- What holds while the parts of items are counted.
 use Rattle.std.proofs.Common.{◌≡◌, ℕ, ◌+◌, ◌-◌, ◌<◌, List, take, length, Option, Some, None, Result, Ok, Err, refl, sym, ap, ◌∙◌, arith}
 use Rattle.std.specs.Prelude.{slice_get, option_map}
-use Rattle.chan_values.specs.Tree.{Kind, Tree, Leaf, Branch, Trees, none, parts, all_parts}
+use Rattle.chan_values.specs.Tree.{Tree, Leaf, Branch, Trees, none, parts, all_parts}
 use Rattle.heap_meaning.specs.Values.{Value}
 use Rattle.heap_meaning.specs.Heap.{Heap, content_at}
 use Rattle.heap_meaning.specs.Reading.{children_in}

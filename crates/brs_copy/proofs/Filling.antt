@@ -1,5 +1,5 @@
 -- What holds while the items of a value that keeps the bounds are copied.
-use Rattle.std.proofs.Common.{◌≡◌, ℕ, zero, suc, ◌+◌, ◌-◌, ◌<◌, ◌≤◌, max, List, [], ◌∷◌, ◌++◌, take, length, Option, Some, None, Result, Ok, Err, refl, sym, ap, ◌∙◌, subst, arith}
+use Rattle.std.proofs.Common.{◌≡◌, ℕ, zero, suc, ◌+◌, ◌-◌, ◌<◌, ◌≤◌, max, List, [], ◌∷◌, ◌++◌, take, Option, Some, None, Result, Ok, Err, refl, sym, ap, ◌∙◌, subst, arith}
 use Rattle.std.specs.Prelude.{slice_get, option_map, IfOk}
 use Rattle.std.proofs.lemmas.List.{map-append}
 use Rattle.std.specs.List.{AllByRecursion}
@@ -8,7 +8,7 @@ use Rattle.std.specs.Ordering.{nat_cmp}
 use Rattle.std.specs.Cmp.Lexicographic.{slice_cmp}
 use Rattle.std.specs.declared.cmp.Ordering.TheVariants.{Less}
 use Rattle.chan_values.specs.Folded.{folded}
-use Rattle.chan_values.specs.Tree.{Kind, Array, Tree, Leaf, Branch, Trees, trees, none, parts, all_parts, depth, deepest, array_of, TreePair, values_of, pairs_of}
+use Rattle.chan_values.specs.Tree.{Kind, Tree, Branch, Trees, trees, parts, all_parts, depth, deepest, array_of, TreePair, values_of, pairs_of}
 use Rattle.chan_values.specs.declared.portable.Portable.{Portable}
 use Rattle.chan_values.specs.declared.NoMemory.{NoMemory}
 use Rattle.chan_values.specs.View.{tree_of}

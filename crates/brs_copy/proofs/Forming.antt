@@ -5,14 +5,13 @@ use Rattle.std.proofs.lemmas.List.{length-map}
 use Rattle.chan_values.specs.Tree as t
 use Rattle.chan_values.specs.Tree.{Kind, Array, Keyed, Tree, Leaf, Branch, parts}
 use Rattle.heap_meaning.specs.declared.plain.Plain.{Plain}
-use Rattle.heap_meaning.specs.declared.shape.Shape.{Shape}
 use Rattle.heap_meaning.specs.declared.shape.Shape.TheVariants as s
 use Rattle.heap_meaning.specs.Values.{Value, Direct, Cell}
 use Rattle.heap_meaning.specs.Cells as c
 use Rattle.heap_meaning.specs.Cells.{Content}
 use Rattle.heap_meaning.specs.Heap.{Heap, content_at}
 use Rattle.heap_meaning.specs.Reading.{plain_of, children_in, keys_in, length_in, shape_in, text_in}
-use Rattle.copy_meaning.specs.Unfolding.{Form, Single, Holds}
+use Rattle.copy_meaning.specs.Unfolding.{Single, Holds}
 use Rattle.copy_meaning.specs.Bounded.{each, opened, closed, tree_within}
 use Rattle.copy_meaning.specs.Forms.{leaving, form_at, form_of_content}
 

@@ -1,5 +1,5 @@
 -- A new array or associative array to which items are put, one after another.
-use Rattle.std.proofs.Common.{◌≡◌, ◌≢◌, ℕ, zero, suc, ◌+◌, ◌-◌, ◌<◌, ◌≤◌, List, [], ◌∷◌, ◌++◌, take, drop, length, length-append, append-nil, Option, Some, None, refl, sym, ap, ◌∙◌, subst, arith}
+use Rattle.std.proofs.Common.{◌≡◌, ◌≢◌, ℕ, zero, suc, ◌+◌, ◌-◌, List, [], ◌∷◌, ◌++◌, length, length-append, append-nil, Some, None, refl, sym, ap, ◌∙◌, subst, arith}
 use Rattle.std.specs.Prelude.{slice_get, slice_set, option_map, replicate}
 use Rattle.std.specs.List.{insert}
 use Rattle.std.proofs.lemmas.Option.{slice_get_within}
@@ -7,15 +7,15 @@ use Rattle.std.proofs.lemmas.List.{length-map}
 use Rattle.chan_values.specs.Folded.{folded}
 use Rattle.chan_values.specs.Portable.{IsKeyList}
 use Rattle.chan_values.specs.Tree.{Kind, Array, Keyed}
-use Rattle.heap_meaning.specs.Values.{Value, Direct, Cell, StoreValue, Reference, Entry, filler, filler_meant}
-use Rattle.heap_meaning.specs.Keys.{keys_of, placed, with_key, is_before, value_at_key, IsGap}
+use Rattle.heap_meaning.specs.Values.{Value, Cell, StoreValue, Reference, Entry, filler, filler_meant}
+use Rattle.heap_meaning.specs.Keys.{keys_of, placed, with_key, value_at_key, IsGap}
 use Rattle.heap_meaning.specs.Store.{ArrayObject, MapObject, Store}
 use Rattle.heap_meaning.specs.Cells as c
 use Rattle.heap_meaning.specs.Cells.{HeldCell, cell_at, occurrence}
 use Rattle.heap_meaning.specs.Stands.{Naming, Outside, Stands, meaning}
 use Rattle.heap_meaning.specs.Reading.{length_in, value_in}
 use Rattle.heap_meaning.specs.Heap.{Heap, Belongs, SetsItem, SetsKey, content_at}
-use Rattle.heap_meaning.specs.Framing.{Rewritten, Grows, GrowsByKey}
+use Rattle.heap_meaning.specs.Framing.{Grows, GrowsByKey}
 use Rattle.heap_meaning.proofs.Lists.{placed_past}
 use Rattle.heap_meaning.proofs.Searching.{sorted_before, with_key_new, value_in_gap}
 use Rattle.copy_meaning.specs.Laying.{entries_with, object_of}

@@ -1,5 +1,5 @@
 -- What holds while items are laid down.
-use Rattle.std.proofs.Common.{◌≡◌, ◌≢◌, ℕ, suc, ◌+◌, ◌<◌, ◌≤◌, List, [], ◌∷◌, ◌++◌, take, map, length, length-append, append-nil, Option, Some, None, refl, sym, ap, ◌∙◌, subst, arith}
+use Rattle.std.proofs.Common.{◌≡◌, ℕ, ◌+◌, ◌<◌, ◌≤◌, List, [], ◌∷◌, ◌++◌, take, length, length-append, append-nil, Some, None, refl, sym, ap, ◌∙◌, subst, arith}
 use Rattle.std.specs.Prelude.{slice_get, slice_set, option_map}
 use Rattle.std.proofs.lemmas.List.{map-append, length-map, length-take-le}
 use Rattle.chan_values.specs.declared.portable.Portable.{Portable}
@@ -11,11 +11,10 @@ use Rattle.chan_values.specs.Portable.{IsBounded, IsKeyList}
 use Rattle.chan_values.proofs.Fronts.{keys_front}
 use Rattle.chan_values.proofs.Order.{last_key}
 use Rattle.heap_meaning.specs.declared.plain.Plain.{Plain}
-use Rattle.heap_meaning.specs.Values.{Value, Direct, Cell, StoreValue, Scalar, Words, Reference}
-use Rattle.heap_meaning.specs.Store.{Store}
+use Rattle.heap_meaning.specs.Values.{Value, Direct, Cell, Scalar, Words, Reference}
 use Rattle.heap_meaning.specs.Cells as c
 use Rattle.heap_meaning.specs.Cells.{HeldCell, cell_at, count_at, count_of, occurrence}
-use Rattle.heap_meaning.specs.Stands.{Naming, Outside, Stands, meaning}
+use Rattle.heap_meaning.specs.Stands.{Outside, Stands, meaning}
 use Rattle.heap_meaning.specs.Heap.{Heap, Made, MakesText, MakesObject, SetsItem, SetsKey, Belongs, content_at}
 use Rattle.heap_meaning.specs.Reading.{length_in}
 use Rattle.heap_meaning.specs.Framing.{Fresh, Grows, GrowsByKey, Keeps}

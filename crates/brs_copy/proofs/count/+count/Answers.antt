@@ -1,10 +1,9 @@
-use Rattle.std.proofs.Common.{◌≡◌, ◌+◌, ◌-◌, Err, inl, inr, sym, ap, ◌∙◌, subst, arith, rules, length}
+use Rattle.std.proofs.Common.{◌≡◌, ◌-◌, Err, inl, inr, sym, ap, ◌∙◌, subst, arith, rules}
 use Rattle.std.specs.Option.{option_copied}
 use Rattle.heap_meaning.specs.Heap.{content_at}
-use Rattle.heap_meaning.specs.Reading.{children_in}
 use Rattle.brs_copy.specs.Counts.{CountsAll}
 use Rattle.brs_copy.proofs.Forming.{some_child, holding_array, holding_pairs, IsHolding}
-use Rattle.brs_copy.proofs.Counting.{count_start, count_more, count_whole, count_stops, items_counted}
+use Rattle.brs_copy.proofs.Counting.{count_start, count_more, count_stops, items_counted}
 use Rattle.brs_copy.proofs.count.+count.Goals as goal
 
 pub count-returns-else-bound-eq0 : goal.count-returns-else-bound-eq0

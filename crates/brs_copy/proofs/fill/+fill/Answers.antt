@@ -1,7 +1,7 @@
-use Rattle.std.proofs.Common.{◌≡◌, ◌∙◌, ◌+◌, [], ◌∷◌, ◌++◌, take, Ok, Err, Some, sym, ap, subst, arith}
+use Rattle.std.proofs.Common.{◌∙◌, ◌+◌, [], ◌∷◌, ◌++◌, Some, sym, ap, subst, arith}
 use Rattle.std.proofs.lemmas.List.{map-append}
-use Rattle.chan_values.specs.Portable.{IsBounded, IsKeyList}
-use Rattle.chan_values.specs.Tree.{array_of, keys_of, values_of}
+use Rattle.chan_values.specs.Portable.{IsKeyList}
+use Rattle.chan_values.specs.Tree.{keys_of, values_of}
 use Rattle.chan_values.specs.View.{tree_of}
 use Rattle.heap_meaning.specs.Heap.{content_at}
 use Rattle.heap_meaning.specs.Reading.{children_in, keys_in}

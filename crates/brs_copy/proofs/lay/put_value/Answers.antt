@@ -1,4 +1,4 @@
-use Rattle.std.proofs.Common.{subst, sym, ◌∙◌, ap}
+use Rattle.std.proofs.Common.{subst, ◌∙◌}
 use Rattle.heap_meaning.specs.Heap.{SetsKey}
 use Rattle.brs_copy.proofs.lay.put_value.Goals as goal
 
