@@ -6,3 +6,4 @@ pub mod Writing
 pub mod Comparing
 pub mod Calls
 pub mod MapCalls
+pub mod Positions

@@ -12,6 +12,7 @@ mod heap;
 mod items;
 mod keys;
 mod maps;
+mod places;
 mod reading;
 mod value;
 

@@ -1,0 +1,5 @@
+pub mod Unfolding
+pub mod Bounded
+pub mod Answers
+pub mod Forms
+pub mod Laying
