@@ -1,1 +1,5 @@
 mod Wraps
+mod Characters
+mod Finding
+mod Blanks
+mod Digits

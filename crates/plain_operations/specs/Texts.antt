@@ -59,11 +59,14 @@ place_in p s t = if nat_le (before_place p) (character_count s) then least_place
 abbrev pub is_blank : ℕ → Bool
 is_blank c = c == 32 || c == 9
 
+abbrev pub without_first_blanks : List ℕ → List ℕ
+without_first_blanks s = drop (prefix_len is_blank s) s
+
 abbrev pub without_end_blanks : List ℕ → List ℕ
 without_end_blanks s = take (length s - suffix_len is_blank s) s
 
 abbrev pub trimmed : List ℕ → List ℕ
-trimmed s = without_end_blanks (drop (prefix_len is_blank s) s)
+trimmed s = without_end_blanks (without_first_blanks s)
 
 -- the number that the digits at the start write, 0 where there is none
 abbrev pub leading_number : List ℕ → ℕ

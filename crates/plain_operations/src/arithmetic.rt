@@ -1,6 +1,8 @@
 //! Sums, differences, products, quotients and remainders.
-ghost use Rattle.std.specs.Prelude.{◌≡◌, ◌++◌, IfOk};
-ghost use Rattle.plain_operations.specs.Pair.{pair_of};
+ghost use Rattle.std.specs.Prelude.{◌≡◌, ◌++◌, length, nat_le, IfOk};
+ghost use Rattle.std.specs.Str.{chars};
+ghost use Rattle.plain_operations.specs.Limits.{longest_text};
+ghost use Rattle.plain_operations.specs.Pair.{Narrow, Wide, pair_of};
 ghost use Rattle.plain_operations.specs.Outcome.{outcome_of};
 ghost use Rattle.plain_operations.specs.Operand.{operand_of};
 ghost use Rattle.plain_operations.specs.Operators.{joined, add_row, subtract_row, multiply_row, divide_row, remainder_row, negate_row};
@@ -13,11 +15,22 @@ use crate::parts::count_characters;
 use chan_values::{ErrorCode, NoMemory, Text};
 use std::alloc::Global;
 
+/// Whether a text after another is not too long. The number of bytes is at least that of characters, and is known at once.
+fn fits(s: &str, t: &str) -> bool
+    ensures { result ≡ nat_le (length (chars (s.now ++ t.now))) longest_text }
+{
+    if s.len() <= LONGEST_TEXT / 2 && t.len() <= LONGEST_TEXT / 2 {
+        return true;
+    }
+    let count = count_characters(s);
+    count <= LONGEST_TEXT && count_characters(t) <= LONGEST_TEXT - count
+}
+
 /// A text after another, or E12 where both together are too long.
 fn join(alloc: Global, s: &str, t: &str) -> Result<Outcome, NoMemory>
     ensures { IfOk result (λ r. outcome_of r ≡ joined s.now t.now) }
 {
-    if count_characters(s) + count_characters(t) > LONGEST_TEXT {
+    if !fits(s, t) {
         return Ok(Outcome::Raised(ErrorCode::E12));
     }
     let mut text = Text::new(alloc);
@@ -60,13 +73,30 @@ pub fn multiply(operands: Pair<'_>) -> Outcome
     }
 }
 
+fn divide_integers(a: i32, b: i32) -> Outcome
+    ensures { outcome_of result ≡ divide_row (Narrow a b) }
+{
+    if b == 0 {
+        return Outcome::Raised(ErrorCode::E3);
+    }
+    Outcome::Integer(a.wrapping_div(b))
+}
+
+fn divide_long_integers(a: i64, b: i64) -> Outcome
+    ensures { outcome_of result ≡ divide_row (Wide a b) }
+{
+    if b == 0 {
+        return Outcome::Raised(ErrorCode::E3);
+    }
+    Outcome::LongInteger(a.wrapping_div(b))
+}
+
 pub fn divide(operands: Pair<'_>) -> Outcome
     ensures { outcome_of result ≡ divide_row (pair_of operands.entry) }
 {
     match operands {
-        Pair::Narrow(_, 0) | Pair::Wide(_, 0) => Outcome::Raised(ErrorCode::E3),
-        Pair::Narrow(a, b) => Outcome::Integer(a.wrapping_div(b)),
-        Pair::Wide(a, b) => Outcome::LongInteger(a.wrapping_div(b)),
+        Pair::Narrow(a, b) => divide_integers(a, b),
+        Pair::Wide(a, b) => divide_long_integers(a, b),
         _ => Outcome::Raised(ErrorCode::E2),
     }
 }

@@ -31,7 +31,7 @@ fn call_asc(arguments: Shape<'_>) -> Outcome
     ensures { outcome_of result ≡ asc_row (shape_of arguments.entry) }
 {
     match arguments {
-        Shape::Text(s) => Outcome::Integer(first_character(s) as i32),
+        Shape::Text(s) => Outcome::Integer(first_character(s)),
         _ => Outcome::Raised(ErrorCode::E2),
     }
 }

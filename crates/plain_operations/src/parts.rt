@@ -1,12 +1,13 @@
 //! Parts of texts. Places and counts are those of characters.
-ghost use Rattle.std.specs.Prelude.{◌≡◌, IfOk};
-ghost use Rattle.std.specs.Str.{str_to_ascii_lowercase, str_to_ascii_uppercase};
+ghost use Rattle.std.specs.Prelude.{◌≡◌, pos, take, drop, IfOk};
+ghost use Rattle.std.specs.Str.{chars, encode_utf8_all, str_to_ascii_lowercase, str_to_ascii_uppercase};
 ghost use Rattle.plain_operations.specs.Texts as spec;
 
 use chan_values::{NoMemory, Text};
 use std::alloc::Global;
 
 /// How many characters a text has.
+#[tactic(auto, using(crate::proofs::Characters::chars_from_encodes))]
 pub fn count_characters(s: &str) -> usize
     ensures { result ≡ spec.character_count s.now }
 {
@@ -27,11 +28,12 @@ pub fn before_place(p: i64) -> usize
     count_of(p).saturating_sub(1)
 }
 
-pub fn first_character(s: &str) -> u32
-    ensures { result ≡ spec.first_character s.now }
+/// The number of the first character, 0 for the empty text.
+pub fn first_character(s: &str) -> i32
+    ensures { result ≡ pos (spec.first_character s.now) }
 {
     match s.chars().next() {
-        Some(c) => u32::from(c),
+        Some(c) => u32::from(c) as i32,
         None => 0,
     }
 }
@@ -48,41 +50,51 @@ pub fn character_text(alloc: Global, n: i64) -> Result<Text, NoMemory>
     Ok(text)
 }
 
+/// The text behind the first n characters.
+pub fn rest_after(s: &str, n: usize) -> &str
+    ensures { result.now ≡ encode_utf8_all (drop n (chars s.now)) }
+{
+    let mut rest = s.chars();
+    for _i in 0..n {
+        if rest.next().is_none() {
+            return "";
+        }
+    }
+    rest.as_str()
+}
+
+/// The first n characters.
+fn front_of(s: &str, n: usize) -> &str
+    ensures { result.now ≡ encode_utf8_all (take n (chars s.now)) }
+{
+    &s[..s.len() - rest_after(s, n).len()]
+}
+
 pub fn left_part(alloc: Global, s: &str, n: i64) -> Result<Text, NoMemory>
     ensures { IfOk result (λ t. t ≡ spec.left_part s.now n) }
 {
-    match s.chars().take(count_of(n)).collect(alloc) {
-        Ok(string) => Ok(Text::from_string(string)),
-        Err(_) => Err(NoMemory),
-    }
+    copy_text(alloc, front_of(s, count_of(n)))
 }
 
 pub fn right_part(alloc: Global, s: &str, n: i64) -> Result<Text, NoMemory>
     ensures { IfOk result (λ t. t ≡ spec.right_part s.now n) }
 {
     let before = count_characters(s).saturating_sub(count_of(n));
-    match s.chars().skip(before).collect(alloc) {
-        Ok(string) => Ok(Text::from_string(string)),
-        Err(_) => Err(NoMemory),
-    }
+    copy_text(alloc, rest_after(s, before))
 }
 
 pub fn rest_from(alloc: Global, s: &str, p: i64) -> Result<Text, NoMemory>
     ensures { IfOk result (λ t. t ≡ spec.rest_from s.now p) }
 {
-    match s.chars().skip(before_place(p)).collect(alloc) {
-        Ok(string) => Ok(Text::from_string(string)),
-        Err(_) => Err(NoMemory),
-    }
+    copy_text(alloc, rest_after(s, before_place(p)))
 }
 
+#[tactic(auto, using(crate::proofs::Characters::chars_of_rest))]
 pub fn middle_part(alloc: Global, s: &str, p: i64, n: i64) -> Result<Text, NoMemory>
     ensures { IfOk result (λ t. t ≡ spec.middle_part s.now p n) }
 {
-    match s.chars().skip(before_place(p)).take(count_of(n)).collect(alloc) {
-        Ok(string) => Ok(Text::from_string(string)),
-        Err(_) => Err(NoMemory),
-    }
+    let rest = rest_after(s, before_place(p));
+    copy_text(alloc, front_of(rest, count_of(n)))
 }
 
 pub fn lower_case(alloc: Global, s: &str) -> Result<Text, NoMemory>
