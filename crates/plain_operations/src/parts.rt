@@ -56,8 +56,9 @@ pub fn rest_after(s: &str, n: usize) -> &str
 {
     let mut rest = s.chars();
     for _i in 0..n {
-        if rest.next().is_none() {
-            return "";
+        match rest.next() {
+            Some(_) => {}
+            None => return "",
         }
     }
     rest.as_str()
