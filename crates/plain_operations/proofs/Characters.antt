@@ -1,8 +1,8 @@
 -- Characters of texts.
 pub use Rattle.std.proofs.lemmas.Str.{chars_from_encodes}
-use Rattle.std.proofs.Common.{◌≡◌, ℕ, zero, suc, ◌+◌, ◌-◌, ◌<◌, ◌≤◌, Bool, true, false, ◌&&◌, List, [], ◌∷◌, ◌++◌, length, take, drop, sym, ap, ◌∙◌, arith, subst, length-append}
-use Rattle.std.proofs.lemmas.List.{take-append-drop, take_at, drop-drop, length-drop, nil_from_length, drop_all}
-use Rattle.std.proofs.lemmas.Str.{encodes-chars, scalars-chars, chars-encodes, encodes-append, chars-append, length-le-encodes, cons_from_encodes, IsCharBoundary-at_seam}
+use Rattle.std.proofs.Common.{◌≡◌, ℕ, ◌+◌, ◌-◌, ◌≤◌, List, [], ◌∷◌, ◌++◌, length, take, drop, sym, ap, ◌∙◌, arith, subst, length-append}
+use Rattle.std.proofs.lemmas.List.{take-append-drop, take_at, drop-drop, length-drop, drop_all}
+use Rattle.std.proofs.lemmas.Str.{encodes-chars, encodes-append, chars-append, length-le-encodes, cons_from_encodes, IsCharBoundary-at_seam}
 use Rattle.std.specs.Char.{encode_utf8}
 use Rattle.std.specs.Str.{IsUtf8, IsCharBoundary, chars, encode_utf8_all}
 

@@ -1,5 +1,5 @@
 -- Functions of numbers and texts: one row for each shape of arguments that it takes.
-use Rattle.std.specs.Prelude.{ℕ, ℤ, pos, unsigned_abs, Bool, ◌||◌, ◌==◌, List, length, if◌then◌else◌}
+use Rattle.std.specs.Prelude.{ℕ, pos, unsigned_abs, Bool, ◌||◌, ◌==◌, List, length, if◌then◌else◌}
 use Rattle.std.specs.Int.{w32, w64, int_wrap}
 use Rattle.std.specs.Str.{str_to_ascii_lowercase, str_to_ascii_uppercase}
 use Rattle.chan_values.specs.declared.error_code.ErrorCode.TheVariants.{E2, E6}

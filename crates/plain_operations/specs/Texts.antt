@@ -1,5 +1,5 @@
 -- Parts of texts, places in them, and the numbers that they write. Places and counts are those of characters.
-use Rattle.std.specs.Prelude.{ℕ, ℤ, pos, negsuc, neg_ℤ, ◌+◌, ◌-◌, max, Bool, ◌&&◌, ◌||◌, nat_eq, nat_lt, nat_le, ◌==◌, List, [], ◌∷◌, length, take, drop, slice_index, if◌then◌else◌, codes}
+use Rattle.std.specs.Prelude.{ℕ, ℤ, pos, negsuc, neg_ℤ, ◌+◌, ◌-◌, Bool, ◌&&◌, ◌||◌, nat_eq, nat_lt, nat_le, ◌==◌, List, [], ◌∷◌, length, take, drop, slice_index, if◌then◌else◌, codes}
 use Rattle.std.specs.List.{starts_with, prefix_len, suffix_len, take_while}
 use Rattle.std.specs.Int.{w32, int_wrap, is_negative}
 use Rattle.std.specs.Char.{encode_utf8, is_ascii_digit}

@@ -1,6 +1,4 @@
-use Rattle.std.proofs.Common.{rules, ◌≡◌, FitsSigned, to_z, of_z, w64, ◌∙◌, ap, sym, lit<}
-use Rattle.std.specs.Int.{int_wrap}
-use Rattle.std.specs.Prelude.{int_div}
+use Rattle.std.proofs.Common.{rules, FitsSigned, of_z, w64, ap, lit<}
 use Rattle.plain_operations.specs.Outcome.{LongInteger}
 use Rattle.plain_operations.proofs.Wraps.{div_is, not_zero}
 use Rattle.plain_operations.proofs.arithmetic.divide_long_integers.Goals as goal

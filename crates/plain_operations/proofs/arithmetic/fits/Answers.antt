@@ -1,5 +1,4 @@
-use Rattle.std.proofs.Common.{◌≡◌, ◌++◌, ◌+◌, ◌≤◌, length, nat_le, true, false, arith, length-append}
-use Rattle.std.specs.Str.{chars}
+use Rattle.std.proofs.Common.{arith}
 use Rattle.plain_operations.proofs.Characters.{length_chars, count_pair}
 use Rattle.plain_operations.proofs.arithmetic.fits.Goals as goal
 

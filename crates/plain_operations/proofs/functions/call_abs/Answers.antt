@@ -1,4 +1,4 @@
-use Rattle.std.proofs.Common.{rules, FitsSigned, w32, w64, ◌≡◌, ap, sym, ◌∙◌, lit<}
+use Rattle.std.proofs.Common.{rules, FitsSigned, w32, w64, ap, sym, ◌∙◌, lit<}
 use Rattle.plain_operations.specs.Outcome.{Integer, LongInteger}
 use Rattle.plain_operations.specs.Shape.{shape_of}
 use Rattle.plain_operations.specs.Functions.{abs_row}

@@ -1,4 +1,4 @@
-use Rattle.std.proofs.Common.{rules, FitsSigned, w32}
+use Rattle.std.proofs.Common.{rules}
 use Rattle.plain_operations.proofs.Wraps.{count_is}
 use Rattle.plain_operations.proofs.numerals.count_integer.Goals as goal
 
