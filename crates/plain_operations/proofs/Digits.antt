@@ -31,7 +31,7 @@ reads_more s i number next l e f r =
     let d = get_or s i 0 in
     let t = take_while is_ascii_digit (drop (i + 1) s) in
     let g : digits_value_after 10 r.0 (take_while is_ascii_digit (drop i s)) ≡ digits_value_after 10 (r.0 * 10 + (d - 48)) t =
-        ap (digits_value_after 10 r.0) (first_digit s i l ∙ ap (λ b. cond b (d ∷ t) []) e) ∙ ap (λ x. digits_value_after 10 (r.0 * 10 + x) t) (digit_value_is d e) in
+    ap (digits_value_after 10 r.0) (first_digit s i l ∙ ap (λ b. cond b (d ∷ t) []) e) ∙ ap (λ x. digits_value_after 10 (r.0 * 10 + x) t) (digit_value_is d e) in
     (r.0 * 10 + (d - 48), f ∙ digit_wraps number r.0 (d - 48) r.1, sym g ∙ r.2)
 
 pub reads_stop : (s : List ℕ) (i : ℕ) (number : ℤ) → i < length s → is_ascii_digit (get_or s i 0) ≡ false → Reads s i number → number ≡ int_wrap w32 (pos (leading_number s))

@@ -52,7 +52,7 @@ place_nowhere at (c ∷ xs) ts l =
 pub finds_none : (at : ℕ) (rest t : List ℕ) → IsUtf8 rest → IsUtf8 t → ((k : ℕ) → k ≤ length rest → LacksTextAt t rest k) → least_place at (chars rest) (chars t) ≡ 0
 finds_none at rest t u v l =
     place_nowhere at (chars rest) (chars t) (λ k h.
-        subst (λ x. LacksTextAt x (encode_utf8_all (chars rest)) k) (sym (encodes-chars t v)) (subst (λ x. LacksTextAt t x k) (sym (encodes-chars rest u)) (l k (omega (arith, ap length (encodes-chars rest u))))))
+    subst (λ x. LacksTextAt x (encode_utf8_all (chars rest)) k) (sym (encodes-chars t v)) (subst (λ x. LacksTextAt t x k) (sym (encodes-chars rest u)) (l k (omega (arith, ap length (encodes-chars rest u))))))
 
 pub finds_some : (at : ℕ) (rest t : List ℕ) (i j : ℕ) → IsUtf8 rest → IsUtf8 t → IsCharBoundary rest i → ((k : ℕ) → k < i → LacksTextAt t rest k) → drop i rest ≡ t ++ drop j rest → least_place at (chars rest) (chars t) ≡ at + length (chars (take i rest))
 finds_some at rest t i j u v b l e =
@@ -65,7 +65,7 @@ finds_some at rest t i j u v b l e =
     let starts = parts_start (chars g) (chars t) (chars (drop j rest)) (ap chars e ∙ chars-append t (drop j rest) v) in
     ap (λ x. least_place at x (chars t)) whole
     ∙ place_after at (chars f) (chars g) (chars t) (λ k h.
-        subst (λ x. LacksTextAt x (encode_utf8_all (chars f ++ chars g)) k) (sym (encodes-chars t v)) (subst (λ x. LacksTextAt t x k) (sym bytes) (l k (omega arith)))) starts
+    subst (λ x. LacksTextAt x (encode_utf8_all (chars f ++ chars g)) k) (sym (encodes-chars t v)) (subst (λ x. LacksTextAt t x k) (sym bytes) (l k (omega arith)))) starts
 
 -- the place, where a place before the end was asked for
 pub place_is : (p : ℤ) (s t : List ℕ) (b n : ℕ) → b ≡ before_place p → b ≤ character_count s → least_place (b + 1) (drop b (chars s)) (chars t) ≡ n → n ≡ place_in p s t

@@ -15,25 +15,41 @@ use chan_values::ErrorCode;
 fn left_integer(n: i32, amount: i64) -> i32
     ensures { result ≡ shifted_left w32 n amount }
 {
-    if amount < 0 || amount >= 32 { 0 } else { n << amount }
+    if amount < 0 || amount >= 32 {
+        0
+    } else {
+        n << amount
+    }
 }
 
 fn left_long_integer(n: i64, amount: i64) -> i64
     ensures { result ≡ shifted_left w64 n amount }
 {
-    if amount < 0 || amount >= 64 { 0 } else { n << amount }
+    if amount < 0 || amount >= 64 {
+        0
+    } else {
+        n << amount
+    }
 }
 
 fn right_integer(n: i32, amount: i64) -> i32
     ensures { result ≡ shifted_right w32 n amount }
 {
-    if amount < 0 || amount >= 32 { 0 } else { (n.cast_unsigned() >> amount).cast_signed() }
+    if amount < 0 || amount >= 32 {
+        0
+    } else {
+        (n.cast_unsigned() >> amount).cast_signed()
+    }
 }
 
 fn right_long_integer(n: i64, amount: i64) -> i64
     ensures { result ≡ shifted_right w64 n amount }
 {
-    if amount < 0 || amount >= 64 { 0 } else { (n.cast_unsigned() >> amount).cast_signed() }
+    if amount < 0 || amount >= 64 {
+        0
+    } else {
+        (n.cast_unsigned() >> amount).cast_signed()
+    }
 }
 
 pub fn shift_left(operands: Shift) -> Outcome

@@ -9,8 +9,8 @@ use crate::function::PlainFunction;
 use crate::numerals::{count_integer, number_in, spaced_decimal};
 use crate::outcome::Outcome;
 use crate::parts::{
-    character_text, count_characters, first_character, left_part, lower_case, middle_part, rest_from,
-    right_part, upper_case,
+    character_text, count_characters, first_character, left_part, lower_case, middle_part,
+    rest_from, right_part, upper_case,
 };
 use crate::places::place_in;
 use crate::shape::Shape;

@@ -52,7 +52,9 @@ fn with_digit(number: i32, digit: u8) -> i32
     requires { IsTrue (is_ascii_digit digit) }
     ensures { result ≡ int_wrap w32 (int_wrap w32 (number *ℤ pos 10) +ℤ pos (digit - 48)) }
 {
-    number.wrapping_mul(10).wrapping_add(i32::from(digit - b'0'))
+    number
+        .wrapping_mul(10)
+        .wrapping_add(i32::from(digit - b'0'))
 }
 
 /// The number that the digits at the start write, wrapped to 32 bits.
