@@ -1,334 +1,337 @@
 //! What functions and methods give, at each bound: the expected values are worked out by hand.
-use crate::Operand::{Boolean, Function, Integer, Invalid, LongInteger, Other, Words};
-use crate::tests::check;
+use crate::tests::{check, value};
 use crate::{
-    Operand, PlainFunction, PlainMethod, Shape, argue, call_function, call_method, one_shape,
-    three_shape, two_shape,
+    PlainFunction, PlainMethod, Shape, argue, call_function, call_method, one_shape, three_shape,
+    two_shape,
 };
-use chan_values::NoMemory;
 use std::alloc::Global;
 use std::process::Abort;
 use std::test::Fail;
 
-const PARTS: [(PlainFunction, &[Operand], &str); 48] = [
-    (PlainFunction::Abs, &[Integer(-5)], "5"),
-    (PlainFunction::Abs, &[Integer(5)], "5"),
-    (
-        PlainFunction::Abs,
-        &[Integer(-2_147_483_648)],
-        "-2147483648",
-    ),
-    (PlainFunction::Abs, &[LongInteger(-5)], "5&"),
-    (
-        PlainFunction::Abs,
-        &[LongInteger(-9_223_372_036_854_775_808)],
-        "-9223372036854775808&",
-    ),
-    (PlainFunction::Abs, &[Words("a")], "E2"),
-    (PlainFunction::Abs, &[], "E6"),
-    (PlainFunction::Asc, &[Words("")], "0"),
-    (PlainFunction::Asc, &[Words("A")], "65"),
-    (PlainFunction::Asc, &[Words("é")], "233"),
-    (PlainFunction::Asc, &[Words("€")], "8364"),
-    (PlainFunction::Asc, &[Words("😀a")], "128512"),
-    (PlainFunction::Asc, &[Integer(1)], "E2"),
-    (PlainFunction::Chr, &[Integer(65)], "\"A\""),
-    (PlainFunction::Chr, &[Integer(0)], "\"\""),
-    (PlainFunction::Chr, &[Integer(-1)], "\"\""),
-    (PlainFunction::Chr, &[Integer(233)], "\"é\""),
-    (PlainFunction::Chr, &[Integer(55_295)], "\"\u{d7ff}\""),
-    (PlainFunction::Chr, &[Integer(55_296)], "\"\""),
-    (PlainFunction::Chr, &[Integer(57_343)], "\"\""),
-    (PlainFunction::Chr, &[Integer(57_344)], "\"\u{e000}\""),
-    (PlainFunction::Chr, &[LongInteger(128_512)], "\"😀\""),
-    (PlainFunction::Chr, &[Integer(1_114_111)], "\"\u{10ffff}\""),
-    (PlainFunction::Chr, &[Integer(1_114_112)], "\"\""),
-    (PlainFunction::Chr, &[LongInteger(4_294_967_361)], "\"\""),
-    (PlainFunction::Chr, &[Words("A")], "E2"),
-    (PlainFunction::Len, &[Words("")], "0"),
-    (PlainFunction::Len, &[Words("banana")], "6"),
-    (PlainFunction::Len, &[Words("aé€😀")], "4"),
-    (PlainFunction::Len, &[Integer(5)], "E2"),
-    (PlainFunction::Len, &[Words("a"), Words("b")], "E6"),
-    (PlainFunction::Left, &[Words("abc"), Integer(-1)], "\"\""),
-    (PlainFunction::Left, &[Words("abc"), Integer(0)], "\"\""),
-    (PlainFunction::Left, &[Words("abc"), Integer(2)], "\"ab\""),
-    (PlainFunction::Left, &[Words("abc"), Integer(3)], "\"abc\""),
-    (
-        PlainFunction::Left,
-        &[Words("abc"), LongInteger(9_223_372_036_854_775_807)],
-        "\"abc\"",
-    ),
-    (PlainFunction::Left, &[Words("é€😀"), Integer(2)], "\"é€\""),
-    (PlainFunction::Left, &[Words("abc")], "E6"),
-    (PlainFunction::Left, &[Integer(1)], "E6"),
-    (PlainFunction::Left, &[Integer(1), Integer(2)], "E2"),
-    (PlainFunction::Left, &[Words("a"), Words("b")], "E2"),
-    (PlainFunction::Right, &[Words("abc"), Integer(2)], "\"bc\""),
-    (PlainFunction::Right, &[Words("abc"), Integer(0)], "\"\""),
-    (PlainFunction::Right, &[Words("abc"), Integer(-5)], "\"\""),
-    (PlainFunction::Right, &[Words("abc"), Integer(4)], "\"abc\""),
-    (
-        PlainFunction::Right,
-        &[Words("é€😀"), LongInteger(1)],
-        "\"😀\"",
-    ),
-    (PlainFunction::Right, &[Invalid, Integer(1)], "E2"),
-    (
-        PlainFunction::Right,
-        &[Words("a"), Integer(1), Integer(1)],
-        "E6",
-    ),
-];
-
-const PLACES: [(PlainFunction, &[Operand], &str); 57] = [
-    (
-        PlainFunction::Mid,
-        &[Words("banana"), Integer(2), Integer(3)],
-        "\"ana\"",
-    ),
-    (
-        PlainFunction::Mid,
-        &[Words("banana"), Integer(2)],
-        "\"anana\"",
-    ),
-    (
-        PlainFunction::Mid,
-        &[Words("banana"), Integer(0)],
-        "\"banana\"",
-    ),
-    (
-        PlainFunction::Mid,
-        &[Words("banana"), Integer(-1), Integer(2)],
-        "\"ba\"",
-    ),
-    (PlainFunction::Mid, &[Words("banana"), Integer(6)], "\"a\""),
-    (PlainFunction::Mid, &[Words("banana"), Integer(7)], "\"\""),
-    (
-        PlainFunction::Mid,
-        &[Words("banana"), Integer(8), Integer(1)],
-        "\"\"",
-    ),
-    (
-        PlainFunction::Mid,
-        &[Words("banana"), Integer(2), Integer(0)],
-        "\"\"",
-    ),
-    (
-        PlainFunction::Mid,
-        &[Words("banana"), Integer(2), Integer(-1)],
-        "\"\"",
-    ),
-    (
-        PlainFunction::Mid,
-        &[Words("é€😀a"), Integer(2), Integer(2)],
-        "\"€😀\"",
-    ),
-    (
-        PlainFunction::Mid,
-        &[
-            Words("banana"),
-            LongInteger(3),
-            LongInteger(9_223_372_036_854_775_807),
-        ],
-        "\"nana\"",
-    ),
-    (PlainFunction::Mid, &[Words("a")], "E6"),
-    (PlainFunction::Mid, &[Integer(1), Integer(2)], "E2"),
-    (
-        PlainFunction::Mid,
-        &[Words("a"), Integer(1), Words("b")],
-        "E2",
-    ),
-    (
-        PlainFunction::Instr,
-        &[Integer(3), Words("banana"), Words("an")],
-        "4",
-    ),
-    (
-        PlainFunction::Instr,
-        &[Integer(1), Words("banana"), Words("an")],
-        "2",
-    ),
-    (
-        PlainFunction::Instr,
-        &[Integer(0), Words("banana"), Words("an")],
-        "2",
-    ),
-    (
-        PlainFunction::Instr,
-        &[Integer(-9), Words("banana"), Words("an")],
-        "2",
-    ),
-    (
-        PlainFunction::Instr,
-        &[Integer(5), Words("banana"), Words("an")],
-        "0",
-    ),
-    (
-        PlainFunction::Instr,
-        &[Integer(7), Words("banana"), Words("")],
-        "7",
-    ),
-    (
-        PlainFunction::Instr,
-        &[Integer(8), Words("banana"), Words("")],
-        "0",
-    ),
-    (
-        PlainFunction::Instr,
-        &[Integer(1), Words(""), Words("")],
-        "1",
-    ),
-    (
-        PlainFunction::Instr,
-        &[Integer(1), Words(""), Words("a")],
-        "0",
-    ),
-    (
-        PlainFunction::Instr,
-        &[Integer(2), Words("é€é"), Words("é")],
-        "3",
-    ),
-    (
-        PlainFunction::Instr,
-        &[Integer(1), Words("é€é"), Words("€é")],
-        "2",
-    ),
-    (
-        PlainFunction::Instr,
-        &[LongInteger(2), Words("aaa"), Words("aa")],
-        "2",
-    ),
-    (
-        PlainFunction::Instr,
-        &[
-            LongInteger(9_223_372_036_854_775_807),
-            Words("a"),
-            Words("a"),
-        ],
-        "0",
-    ),
-    (
-        PlainFunction::Instr,
-        &[Words("a"), Words("b"), Words("c")],
-        "E2",
-    ),
-    (PlainFunction::Instr, &[Integer(1), Words("a")], "E6"),
-    (PlainFunction::LCase, &[Words("ÀBc[1")], "\"Àbc[1\""),
-    (PlainFunction::LCase, &[Words("")], "\"\""),
-    (PlainFunction::LCase, &[Integer(1)], "E2"),
-    (PlainFunction::UCase, &[Words("àbC{z")], "\"àBC{Z\""),
-    (PlainFunction::UCase, &[], "E6"),
-    (PlainFunction::Str, &[Integer(5)], "\" 5\""),
-    (PlainFunction::Str, &[Integer(-5)], "\"-5\""),
-    (PlainFunction::Str, &[Integer(0)], "\" 0\""),
-    (
-        PlainFunction::Str,
-        &[LongInteger(9_223_372_036_854_775_807)],
-        "\" 9223372036854775807\"",
-    ),
-    (PlainFunction::Str, &[Words("5")], "E2"),
-    (
-        PlainFunction::StrI,
-        &[Integer(-2_147_483_648)],
-        "\"-2147483648\"",
-    ),
-    (PlainFunction::StrI, &[LongInteger(7)], "\" 7\""),
-    (PlainFunction::StrI, &[Boolean(true)], "E2"),
-    (PlainFunction::StrToI, &[Words(" -12x")], "-12"),
-    (PlainFunction::StrToI, &[Words("- 5")], "0"),
-    (PlainFunction::StrToI, &[Words("+7")], "7"),
-    (PlainFunction::StrToI, &[Words("")], "0"),
-    (PlainFunction::StrToI, &[Words("   ")], "0"),
-    (PlainFunction::StrToI, &[Words("\t5")], "0"),
-    (PlainFunction::StrToI, &[Words("4294967295")], "-1"),
-    (PlainFunction::StrToI, &[Words("-4294967297")], "-1"),
-    (PlainFunction::StrToI, &[Words("2147483648")], "-2147483648"),
-    (PlainFunction::StrToI, &[Words("--5")], "0"),
-    (PlainFunction::StrToI, &[Words("+-5")], "0"),
-    (PlainFunction::StrToI, &[Words("007")], "7"),
-    (PlainFunction::StrToI, &[Words("12 3")], "12"),
-    (
-        PlainFunction::StrToI,
-        &[Words("99999999999999999999")],
-        "1661992959",
-    ),
-    (PlainFunction::StrToI, &[Integer(5)], "E2"),
-];
-
-const METHODS: [(PlainMethod, Operand, usize, &str); 27] = [
-    (PlainMethod::ToStr, Boolean(true), 0, "\"true\""),
-    (PlainMethod::ToStr, Boolean(false), 0, "\"false\""),
-    (PlainMethod::ToStr, Integer(7), 0, "\"7\""),
-    (PlainMethod::ToStr, Integer(-7), 0, "\"-7\""),
-    (PlainMethod::ToStr, LongInteger(5), 0, "\"5\""),
-    (PlainMethod::ToStr, Words("é"), 0, "\"é\""),
-    (PlainMethod::ToStr, Words(""), 0, "\"\""),
-    (PlainMethod::ToStr, Invalid, 0, "E7"),
-    (PlainMethod::ToStr, Invalid, 1, "E7"),
-    (PlainMethod::ToStr, Function, 0, "E4"),
-    (PlainMethod::ToStr, Other, 2, "E4"),
-    (PlainMethod::ToStr, Integer(5), 1, "E6"),
-    (PlainMethod::ToInt, Words(" 12"), 0, "12"),
-    (PlainMethod::ToInt, Words("x"), 0, "0"),
-    (PlainMethod::ToInt, Integer(5), 0, "E4"),
-    (PlainMethod::ToInt, Words("1"), 1, "E6"),
-    (PlainMethod::Len, Words("é😀"), 0, "2"),
-    (PlainMethod::Len, Boolean(true), 0, "E4"),
-    (PlainMethod::Len, Words(""), 2, "E6"),
-    (PlainMethod::Trim, Words(" \t a b\t "), 0, "\"a b\""),
-    (PlainMethod::Trim, Words(""), 0, "\"\""),
-    (PlainMethod::Trim, Words(" \t "), 0, "\"\""),
-    (PlainMethod::Trim, Words("é"), 0, "\"é\""),
-    (PlainMethod::Trim, Words("\u{a0}a "), 0, "\"\u{a0}a\""),
-    (PlainMethod::Trim, Words("\na "), 0, "\"\na\""),
-    (PlainMethod::Trim, Invalid, 0, "E7"),
-    (PlainMethod::Trim, LongInteger(5), 0, "E4"),
-];
-
-fn shape<'a>(arguments: &[Operand<'a>]) -> Shape<'a> {
-    match arguments {
-        [a] => one_shape(*a),
-        [a, b] => two_shape(argue(*a), argue(*b)),
-        [a, b, c] => three_shape(argue(*a), argue(*b), argue(*c)),
-        _ => Shape::Mixed,
+/// How many arguments a row has.
+fn count(arguments: &str) -> usize {
+    if arguments.is_empty() {
+        return 0;
+    }
+    match arguments.split_once('|') {
+        None => 1,
+        Some((_, rest)) => match rest.split_once('|') {
+            None => 2,
+            Some(_) => 3,
+        },
     }
 }
 
-fn check_all(
+fn shape(arguments: &str) -> Shape<'_> {
+    if arguments.is_empty() {
+        return Shape::Mixed;
+    }
+    match arguments.split_once('|') {
+        None => one_shape(value(arguments)),
+        Some((first, rest)) => match rest.split_once('|') {
+            None => two_shape(argue(value(first)), argue(value(rest))),
+            Some((second, third)) => three_shape(
+                argue(value(first)),
+                argue(value(second)),
+                argue(value(third)),
+            ),
+        },
+    }
+}
+
+/// Each row has at most three arguments and what the function gives of them.
+fn check_function(
     rt: &impl Abort,
     alloc: Global,
-    rows: &[(PlainFunction, &[Operand], &str)],
-) -> Result<(), NoMemory> {
+    function: PlainFunction,
+    rows: &[&str],
+) -> Result<(), Fail> {
     for row in rows {
-        let outcome = call_function(alloc, row.0, row.1.len(), shape(row.1))?;
-        check(rt, alloc, outcome, row.2)?;
+        if let Some((arguments, wanted)) = row.split_once(" = ") {
+            let outcome = call_function(alloc, function, count(arguments), shape(arguments))?;
+            check(rt, alloc, outcome, wanted)?;
+        }
+    }
+    Ok(())
+}
+
+/// Each row has a value, and what the method gives of it with this number of arguments.
+fn check_method(
+    rt: &impl Abort,
+    alloc: Global,
+    method: PlainMethod,
+    count: usize,
+    rows: &[&str],
+) -> Result<(), Fail> {
+    for row in rows {
+        if let Some((receiver, wanted)) = row.split_once(" = ") {
+            check(
+                rt,
+                alloc,
+                call_method(alloc, method, value(receiver), count)?,
+                wanted,
+            )?;
+        }
     }
     Ok(())
 }
 
 #[test]
-fn characters_are_counted_and_taken_from_both_ends(rt: HostRuntime) -> Result<(), Fail> {
-    check_all(&rt, rt.alloc(), &PARTS)?;
+fn numbers_of_characters_and_characters_of_numbers(rt: HostRuntime) -> Result<(), Fail> {
+    let alloc = rt.alloc();
+    check_function(
+        &rt,
+        alloc,
+        PlainFunction::Abs,
+        &[
+            "-5 = 5",
+            "5 = 5",
+            "-2147483648 = -2147483648",
+            "-5& = 5&",
+            "-9223372036854775808& = -9223372036854775808&",
+            "'a = E2",
+            " = E6",
+        ],
+    )?;
+    check_function(
+        &rt,
+        alloc,
+        PlainFunction::Asc,
+        &[
+            "' = 0",
+            "'A = 65",
+            "'é = 233",
+            "'€ = 8364",
+            "'😀a = 128512",
+            "1 = E2",
+        ],
+    )?;
+    check_function(
+        &rt,
+        alloc,
+        PlainFunction::Chr,
+        &[
+            "65 = 'A",
+            "0 = '",
+            "-1 = '",
+            "233 = 'é",
+            "55295 = '\u{d7ff}",
+            "55296 = '",
+            "57343 = '",
+            "57344 = '\u{e000}",
+            "128512& = '😀",
+            "1114111 = '\u{10ffff}",
+            "1114112 = '",
+            "4294967361& = '",
+            "'A = E2",
+        ],
+    )?;
+    check_function(
+        &rt,
+        alloc,
+        PlainFunction::Len,
+        &["' = 0", "'banana = 6", "'aé€😀 = 4", "5 = E2", "'a|'b = E6"],
+    )?;
+    Ok(())
+}
+
+#[test]
+fn characters_are_taken_from_both_ends(rt: HostRuntime) -> Result<(), Fail> {
+    let alloc = rt.alloc();
+    check_function(
+        &rt,
+        alloc,
+        PlainFunction::Left,
+        &[
+            "'abc|-1 = '",
+            "'abc|0 = '",
+            "'abc|2 = 'ab",
+            "'abc|3 = 'abc",
+            "'abc|9223372036854775807& = 'abc",
+            "'é€😀|2 = 'é€",
+            "'abc = E6",
+            "1 = E6",
+            "1|2 = E2",
+            "'a|'b = E2",
+        ],
+    )?;
+    check_function(
+        &rt,
+        alloc,
+        PlainFunction::Right,
+        &[
+            "'abc|2 = 'bc",
+            "'abc|0 = '",
+            "'abc|-5 = '",
+            "'abc|4 = 'abc",
+            "'é€😀|1& = '😀",
+            "invalid|1 = E2",
+            "'a|1|1 = E6",
+        ],
+    )?;
+    check_function(
+        &rt,
+        alloc,
+        PlainFunction::LCase,
+        &["'ÀBc[1 = 'Àbc[1", "' = '", "1 = E2"],
+    )?;
+    check_function(
+        &rt,
+        alloc,
+        PlainFunction::UCase,
+        &["'àbC{z = 'àBC{Z", " = E6"],
+    )?;
     Ok(())
 }
 
 #[test]
 fn places_are_counted_from_one(rt: HostRuntime) -> Result<(), Fail> {
-    check_all(&rt, rt.alloc(), &PLACES)?;
+    let alloc = rt.alloc();
+    check_function(
+        &rt,
+        alloc,
+        PlainFunction::Mid,
+        &[
+            "'banana|2|3 = 'ana",
+            "'banana|2 = 'anana",
+            "'banana|0 = 'banana",
+            "'banana|-1|2 = 'ba",
+            "'banana|6 = 'a",
+            "'banana|7 = '",
+            "'banana|8|1 = '",
+            "'banana|2|0 = '",
+            "'banana|2|-1 = '",
+            "'é€😀a|2|2 = '€😀",
+            "'banana|3&|9223372036854775807& = 'nana",
+            "'a = E6",
+            "1|2 = E2",
+            "'a|1|'b = E2",
+        ],
+    )?;
+    check_function(
+        &rt,
+        alloc,
+        PlainFunction::Instr,
+        &[
+            "3|'banana|'an = 4",
+            "1|'banana|'an = 2",
+            "0|'banana|'an = 2",
+            "-9|'banana|'an = 2",
+            "5|'banana|'an = 0",
+            "7|'banana|' = 7",
+            "8|'banana|' = 0",
+            "1|'|' = 1",
+            "1|'|'a = 0",
+            "2|'é€é|'é = 3",
+            "1|'é€é|'€é = 2",
+            "2&|'aaa|'aa = 2",
+            "9223372036854775807&|'a|'a = 0",
+            "'a|'b|'c = E2",
+            "1|'a = E6",
+        ],
+    )?;
+    Ok(())
+}
+
+#[test]
+fn numbers_are_written_and_read(rt: HostRuntime) -> Result<(), Fail> {
+    let alloc = rt.alloc();
+    check_function(
+        &rt,
+        alloc,
+        PlainFunction::Str,
+        &[
+            "5 = ' 5",
+            "-5 = '-5",
+            "0 = ' 0",
+            "9223372036854775807& = ' 9223372036854775807",
+            "'5 = E2",
+        ],
+    )?;
+    check_function(
+        &rt,
+        alloc,
+        PlainFunction::StrI,
+        &["-2147483648 = '-2147483648", "7& = ' 7", "true = E2"],
+    )?;
+    check_function(
+        &rt,
+        alloc,
+        PlainFunction::StrToI,
+        &[
+            "' -12x = -12",
+            "'- 5 = 0",
+            "'+7 = 7",
+            "' = 0",
+            "'    = 0",
+            "'\t5 = 0",
+            "'4294967295 = -1",
+            "'-4294967297 = -1",
+            "'2147483648 = -2147483648",
+            "'--5 = 0",
+            "'+-5 = 0",
+            "'007 = 7",
+            "'12 3 = 12",
+            "'99999999999999999999 = 1661992959",
+            "5 = E2",
+        ],
+    )?;
     Ok(())
 }
 
 #[test]
 fn methods_are_told_by_the_value_that_they_are_called_on(rt: HostRuntime) -> Result<(), Fail> {
-    for row in &METHODS {
-        check(
-            &rt,
-            rt.alloc(),
-            call_method(rt.alloc(), row.0, row.1, row.2)?,
-            row.3,
-        )?;
-    }
+    let alloc = rt.alloc();
+    check_method(
+        &rt,
+        alloc,
+        PlainMethod::ToStr,
+        0,
+        &[
+            "true = 'true",
+            "false = 'false",
+            "7 = '7",
+            "-7 = '-7",
+            "5& = '5",
+            "'é = 'é",
+            "' = '",
+            "invalid = E7",
+            "function = E4",
+        ],
+    )?;
+    check_method(
+        &rt,
+        alloc,
+        PlainMethod::ToStr,
+        1,
+        &["invalid = E7", "5 = E6"],
+    )?;
+    check_method(&rt, alloc, PlainMethod::ToStr, 2, &["other = E4"])?;
+    check_method(
+        &rt,
+        alloc,
+        PlainMethod::ToInt,
+        0,
+        &["' 12 = 12", "'x = 0", "5 = E4"],
+    )?;
+    check_method(&rt, alloc, PlainMethod::ToInt, 1, &["'1 = E6"])?;
+    check_method(&rt, alloc, PlainMethod::Len, 0, &["'é😀 = 2", "true = E4"])?;
+    check_method(&rt, alloc, PlainMethod::Len, 2, &["' = E6"])?;
+    check_method(
+        &rt,
+        alloc,
+        PlainMethod::Trim,
+        0,
+        &[
+            "' \t a b\t  = 'a b",
+            "' = '",
+            "' \t  = '",
+            "'é = 'é",
+            "'\u{a0}a  = '\u{a0}a",
+            "'\na  = '\na",
+            "invalid = E7",
+            "5& = E4",
+        ],
+    )?;
     Ok(())
 }

@@ -1,44 +1,65 @@
 //! What outcomes of tests are compared by, and the small tables: names, declared types, conditions.
 use crate::Operand::{Boolean, Function, Integer, Invalid, LongInteger, Other, Words};
 use crate::{
-    Fit, Outcome, PlainFunction, PlainMethod, ValueType, condition, decides_and, decides_or,
-    fit_value, function_named, has_method, method_named,
+    Fit, Operand, Outcome, PlainFunction, PlainMethod, ValueType, condition, decides_and,
+    decides_or, fit_value, function_named, has_method, method_named,
 };
-use chan_values::{NoMemory, Portable, Text, text_of_value};
+use chan_values::{NoMemory, Text};
 use std::alloc::Global;
 use std::process::Abort;
+use std::test::Fail;
 
-/// The text of a value, the name of an error, or the length of a text past a thousand bytes.
-fn shown(alloc: Global, outcome: Outcome) -> Result<Text, NoMemory> {
-    match outcome {
-        Outcome::Invalid => text_of_value(alloc, &Portable::Nothing),
-        Outcome::Boolean(b) => text_of_value(alloc, &Portable::Truth(b)),
-        Outcome::Integer(n) => text_of_value(alloc, &Portable::Small(n)),
-        Outcome::LongInteger(n) => text_of_value(alloc, &Portable::Big(n)),
-        Outcome::Words(text) => shown_text(alloc, text),
-        Outcome::Raised(error) => match format!(in alloc; "E{}", error.number()) {
-            Ok(string) => Ok(Text::from_string(string)),
-            Err(_) => Err(NoMemory),
-        },
+/// The value that a word of a row writes: `'` and a text, digits, digits with `&`, or the name of a value or kind.
+pub fn value(word: &str) -> Operand<'_> {
+    if let Some(text) = word.strip_prefix('\'') {
+        return Words(text);
     }
-}
-
-fn shown_text(alloc: Global, text: Text) -> Result<Text, NoMemory> {
-    if text.len() > 1000 {
-        return match format!(in alloc; "{} bytes", text.len()) {
-            Ok(string) => Ok(Text::from_string(string)),
-            Err(_) => Err(NoMemory),
+    if let Some(digits) = word.strip_suffix('&') {
+        return match digits.parse::<i64>() {
+            Ok(n) => LongInteger(n),
+            Err(_) => Other,
         };
     }
-    text_of_value(alloc, &Portable::Words(text))
+    match word.parse::<i32>() {
+        Ok(n) => Integer(n),
+        Err(_) => named(word),
+    }
 }
 
-pub fn check(
-    rt: &impl Abort,
-    alloc: Global,
-    outcome: Outcome,
-    wanted: &str,
-) -> Result<(), NoMemory> {
+fn named(word: &str) -> Operand<'_> {
+    if word == "true" {
+        return Boolean(true);
+    }
+    if word == "false" {
+        return Boolean(false);
+    }
+    if word == "invalid" {
+        return Invalid;
+    }
+    if word == "function" { Function } else { Other }
+}
+
+/// The same of what an operation gives, the name of an error, or the length of a text past a thousand bytes.
+fn shown(alloc: Global, outcome: Outcome) -> Result<String, Fail> {
+    Ok(match outcome {
+        Outcome::Invalid => format!(in alloc; "invalid")?,
+        Outcome::Boolean(b) => format!(in alloc; "{b}")?,
+        Outcome::Integer(n) => format!(in alloc; "{n}")?,
+        Outcome::LongInteger(n) => format!(in alloc; "{n}&")?,
+        Outcome::Words(text) => shown_text(alloc, text.as_str())?,
+        Outcome::Raised(error) => format!(in alloc; "{error:?}")?,
+    })
+}
+
+fn shown_text(alloc: Global, text: &str) -> Result<String, Fail> {
+    let count = text.len();
+    if count > 1000 {
+        return Ok(format!(in alloc; "{count} bytes")?);
+    }
+    Ok(format!(in alloc; "'{text}")?)
+}
+
+pub fn check(rt: &impl Abort, alloc: Global, outcome: Outcome, wanted: &str) -> Result<(), Fail> {
     let text = shown(alloc, outcome)?;
     assert_eq!(rt; text.as_str(), wanted);
     Ok(())
