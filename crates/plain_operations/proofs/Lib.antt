@@ -1,0 +1,5 @@
+mod Wraps
+mod Characters
+mod Finding
+mod Blanks
+mod Digits

@@ -1,0 +1,13 @@
+pub mod Limits
+pub mod Operand
+pub mod Outcome
+pub mod Pair
+pub mod Shift
+pub mod Operators
+pub mod Deciding
+pub mod Fit
+pub mod Texts
+pub mod Shape
+pub mod Functions
+pub mod Methods
+pub mod Names
