@@ -1,0 +1,13 @@
+use Rattle.std.proofs.Common.{◌∙◌, ap, take, arith}
+use Rattle.brs_grammar.specs.View.{named_of}
+use Rattle.static_faults.specs.Faults.{named_faults}
+use Rattle.static_faults.specs.First.{first_by_place}
+use Rattle.static_faults.specs.Parts.{function_names}
+use Rattle.static_faults.proofs.Files.{file_more}
+use Rattle.static_faults.proofs.file.first_of.Goals as goal
+
+pub loop-i-preserved : goal.loop-i-preserved
+loop-i-preserved c =
+    let fs = c.args.functions.now in
+    let f = c.index-functions-i.result in
+    file_more _ _ _ fs c.loop-i.i f (omega arith) c.index-functions-i.is c.loop-i.invariant c.named.ensures c.earlier-found.ensures
