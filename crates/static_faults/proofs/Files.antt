@@ -49,23 +49,27 @@ pub none_is : (xs : List StaticFault) → IsNone (first_by_place xs) ↔ (xs ≡
 none_is xs = (λ h. none_listed xs (search (rules, h)), λ e. search (rules, e))
 
 head_is_listed : (x : StaticFault) (xs : List StaticFault) → Contains (x ∷ xs) x
-head_is_listed x xs = (0, (omega arith, refl))
+head_is_listed x xs = (0, omega arith, refl)
+
+-- none of these stands before a fault
+abbrev NoneBefore : StaticFault → StaticFault → Type 0
+NoneBefore f other = is_before other f ≡ false
 
 first_step : (x : StaticFault) (xs : List StaticFault) (m : Option StaticFault) → (m ≡ None → xs ≡ []) → IfSome m (λ f. StandsFirst f xs) → IfSome (earlier (Some x) m) (λ f. StandsFirst f (x ∷ xs))
 first_step x xs None empty h = record {
   listed = head_is_listed x xs;
-  none_before = All-cons _ x xs (before_self x) (All-same _ xs [] (empty refl) (All-nil _));
+  none_before = All-cons (NoneBefore x) x xs (before_self x) (All-same (NoneBefore x) xs [] (empty refl) (All-nil (NoneBefore x)));
 }
 first_step x xs (Some y) empty h = go (is_before y x) refl
   where
     go : (b : Bool) → is_before y x ≡ b → IfSome (cond b (Some y) (Some x)) (λ f. StandsFirst f (x ∷ xs))
     go true e = record {
       listed = Contains-append_right (x ∷ []) xs y h.listed;
-      none_before = All-cons _ x xs (before_once x y e) h.none_before;
+      none_before = All-cons (NoneBefore y) x xs (before_once x y e) h.none_before;
     }
     go false e = record {
       listed = head_is_listed x xs;
-      none_before = All-cons _ x xs (before_self x) (All-weaker _ _ (λ z. before_not x y z e) xs h.none_before);
+      none_before = All-cons (NoneBefore x) x xs (before_self x) (All-weaker (NoneBefore y) (NoneBefore x) (λ z. before_not x y z e) xs h.none_before);
     }
 
 pub first_stands : (xs : List StaticFault) → IfSome (first_by_place xs) (λ f. StandsFirst f xs)

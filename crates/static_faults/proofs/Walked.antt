@@ -1,6 +1,6 @@
 -- The static faults of each part of a tree, from those of its parts: one equation for each form.
-use Rattle.std.proofs.Common.{◌≡◌, ℕ, ◌+◌, ◌<◌, true, List, [], ◌∷◌, ◌++◌, Option, None, Some, length, map, take, get_or, refl, sym, ap, ◌∙◌, append_assoc}
-use Rattle.std.proofs.lemmas.List.{take_more, append-nil}
+use Rattle.std.proofs.Common.{◌≡◌, ℕ, ◌+◌, ◌<◌, ◌≤◌, true, List, [], ◌∷◌, ◌++◌, Option, None, Some, length, map, take, get_or, refl, sym, ap, ◌∙◌, append_assoc}
+use Rattle.std.proofs.lemmas.List.{take_more, take_all, append-nil}
 use Rattle.chan_values.specs.Folded.{folded}
 use Rattle.brs_tokens.specs.declared.place.Place.{Place}
 use Rattle.brs_grammar.specs.declared.tree.CountSign.{CountSign}
@@ -65,6 +65,12 @@ flat_more front g found one found' xs i x h at was is new =
     ∙ sym (first_append (front ++ flat g (take i xs)) (g x))
     ∙ ap first_by_place (append_assoc front (flat g (take i xs)) (g x))
     ∙ ap (λ l. first_by_place (front ++ l)) (sym (flat_append g (take i xs) x) ∙ ap (λ y. flat g (take i xs ++ y ∷ [])) at ∙ ap (flat g) (sym (take_more xs i x h)))
+
+-- a loop over a list is through
+pub flat_done : {A : Type 0} (front : List StaticFault) (g : A → List StaticFault) (found : Option StaticFault) (items xs : List A) (i : ℕ) (whole : List StaticFault) → length items ≤ i → items ≡ xs
+    → found ≡ first_by_place (front ++ flat g (take i items)) → whole ≡ front ++ flat g xs → found ≡ first_by_place whole
+flat_done front g found items xs i whole h same was is =
+    was ∙ ap (λ l. first_by_place (front ++ flat g l)) (take_all i items h ∙ same) ∙ ap first_by_place (sym is)
 
 -- ---- expressions
 
@@ -223,7 +229,7 @@ pub parameters_more : (found own inner both found' : Option StaticFault) (xs : L
 parameters_more found own inner both found' xs i x h at was is deep joint new =
     let seen = all_parameter_faults [] (take i xs) in
     let mine = each_parameter_faults (take i xs) x in
-    let one : both ≡ first_by_place mine = joint ∙ ap (λ f. earlier f inner) is ∙ ap (earlier (first_by_place (parameter_faults (names (take i xs)) (name_of x) (out-Parameter x).name.place))) deep ∙ sym (first_append _ _) in
+    let one : both ≡ first_by_place mine = joint ∙ ap (λ f. earlier f inner) is ∙ ap (earlier (first_by_place (parameter_faults (names (take i xs)) (name_of x) (out-Parameter x).name.place))) deep ∙ sym (first_append (parameter_faults (names (take i xs)) (name_of x) (out-Parameter x).name.place) (default_faults (out-Parameter x).default)) in
     new ∙ ap (λ f. earlier f both) was ∙ ap (earlier (first_by_place seen)) one ∙ sym (first_append seen mine)
     ∙ ap first_by_place (sym (all_parameter_append [] (take i xs) x))
     ∙ ap (λ y. first_by_place (all_parameter_faults [] (take i xs ++ y ∷ []))) at

@@ -312,10 +312,10 @@ fn simple(statement: &Simple, around: Surroundings) -> Option<StaticFault>
         Simple::Count(set, _, _) => earlier(postfixes(set.more.as_slice()), target(set)),
         Simple::Call(called) => postfixes(called.more.as_slice()),
         Simple::Print(_, items) => print_items(items.as_slice()),
-        Simple::Return(_, None) => None,
-        Simple::Return(place, Some(value)) => {
-            earlier(expression(value), value_fault(around, *place))
-        }
+        Simple::Return(place, returned) => match returned {
+            None => None,
+            Some(value) => earlier(expression(value), value_fault(around, *place)),
+        },
         Simple::Exit(place, kind) => exit_fault(around, *kind, *place),
     }
 }
@@ -382,34 +382,38 @@ fn statement(statement: &Statement, around: Surroundings) -> Option<StaticFault>
 {
     match statement {
         Statement::Simple(inner) => simple(inner, around),
-        Statement::BlockIf(first, more, None) => earlier(
-            block_arm(first, around),
-            block_arms(more.as_slice(), around),
-        ),
-        Statement::BlockIf(first, more, Some(other)) => earlier(
-            block_arm(first, around),
-            earlier(
+        Statement::BlockIf(first, more, other) => match other {
+            None => earlier(
+                block_arm(first, around),
                 block_arms(more.as_slice(), around),
-                block(other.as_slice(), around),
             ),
-        ),
-        Statement::For(_, variable, start, end, None, inner) => earlier(
-            earlier(expression(start.get()), expression(end.get())),
-            earlier(
-                variable_fault(variable),
-                block(inner.as_slice(), in_for(around)),
+            Some(other) => earlier(
+                block_arm(first, around),
+                earlier(
+                    block_arms(more.as_slice(), around),
+                    block(other.as_slice(), around),
+                ),
             ),
-        ),
-        Statement::For(_, variable, start, end, Some(step), inner) => earlier(
-            earlier(
-                expression(start.get()),
-                earlier(expression(end.get()), expression(step.get())),
+        },
+        Statement::For(_, variable, start, end, step, inner) => match step {
+            None => earlier(
+                earlier(expression(start.get()), expression(end.get())),
+                earlier(
+                    variable_fault(variable),
+                    block(inner.as_slice(), in_for(around)),
+                ),
             ),
-            earlier(
-                variable_fault(variable),
-                block(inner.as_slice(), in_for(around)),
+            Some(step) => earlier(
+                earlier(
+                    expression(start.get()),
+                    earlier(expression(end.get()), expression(step.get())),
+                ),
+                earlier(
+                    variable_fault(variable),
+                    block(inner.as_slice(), in_for(around)),
+                ),
             ),
-        ),
+        },
         Statement::ForEach(_, variable, items, inner) => earlier(
             expression(items),
             earlier(
@@ -421,16 +425,16 @@ fn statement(statement: &Statement, around: Surroundings) -> Option<StaticFault>
             expression(condition),
             block(inner.as_slice(), in_while(around)),
         ),
-        Statement::LineIf(first, more, None) => {
-            earlier(line_arm(first, around), line_arms(more.as_slice(), around))
-        }
-        Statement::LineIf(first, more, Some(other)) => earlier(
-            line_arm(first, around),
-            earlier(
-                line_arms(more.as_slice(), around),
-                run(other.as_slice(), around),
+        Statement::LineIf(first, more, other) => match other {
+            None => earlier(line_arm(first, around), line_arms(more.as_slice(), around)),
+            Some(other) => earlier(
+                line_arm(first, around),
+                earlier(
+                    line_arms(more.as_slice(), around),
+                    run(other.as_slice(), around),
+                ),
             ),
-        ),
+        },
     }
 }
 
