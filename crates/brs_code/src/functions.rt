@@ -1,5 +1,6 @@
 //! A list of functions.
-ghost use Rattle.std.specs.Prelude.{◌≡◌, [], ◌∷◌, ◌++◌, length, OnOk, OnErr};
+ghost use Rattle.std.specs.Prelude.{◌≡◌, [], ◌∷◌, ◌++◌, length, map, take, OnOk, OnErr};
+ghost use Rattle.brs_code.specs.Join.{moved};
 
 use crate::Function;
 use chan_values::NoMemory;
@@ -54,5 +55,34 @@ impl FunctionList {
         ensures { result.now ≡ self.now }
     {
         self.functions.as_slice()
+    }
+
+    /// Makes the functions those of the file of this path, behind so many anonymous functions of other files. Takes no memory.
+    pub(crate) fn move_behind(&mut self, path: u32, before: usize)
+        ensures { self.new ≡ map (moved path before) self.old }
+    {
+        for function in self.functions.iter_mut() {
+            function.path = path;
+            function.first = before.saturating_add(function.first);
+        }
+    }
+
+    /// Moves these functions to the end. After an `Err` nothing has changed.
+    pub(crate) fn append(&mut self, more: FunctionList) -> Result<(), NoMemory>
+        ensures ok { OnOk result (self.new ≡ self.old ++ more) }
+        ensures err { OnErr result (self.new ≡ self.old) }
+    {
+        let FunctionList { mut functions } = more;
+        match self.functions.append(&mut functions) {
+            Ok(()) => Ok(()),
+            Err(_) => Err(NoMemory),
+        }
+    }
+
+    /// Drops the functions behind the first `len` ones. Takes no memory.
+    pub(crate) fn truncate(&mut self, len: usize)
+        ensures { self.new ≡ take len self.old }
+    {
+        self.functions.truncate(len);
     }
 }

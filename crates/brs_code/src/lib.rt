@@ -6,6 +6,7 @@ mod effect;
 mod function;
 mod functions;
 mod instr;
+mod join;
 mod rule;
 mod scope;
 mod verified;
