@@ -1,5 +1,5 @@
 -- The first fault by place of two lists, and that it stands first.
-use Rattle.std.proofs.Common.{◌≡◌, ℕ, ◌<◌, Bool, true, false, cond, List, [], ◌∷◌, ◌++◌, Option, None, Some, refl, sym, ap, ◌∙◌, arith}
+use Rattle.std.proofs.Common.{◌≡◌, Bool, true, false, cond, List, [], ◌∷◌, ◌++◌, Option, None, Some, refl, sym, ap, ◌∙◌, arith}
 use Rattle.std.proofs.lemmas.Grind.{common_steps}
 use Rattle.static_faults.specs.declared.fault.StaticFault.{StaticFault}
 use Rattle.static_faults.specs.First.{is_before, earlier, first_by_place}

@@ -1,5 +1,5 @@
 -- The static faults of a file's functions, and that the one found stands first.
-use Rattle.std.proofs.Common.{◌≡◌, ℕ, ◌+◌, ◌<◌, true, false, cond, List, [], ◌∷◌, ◌++◌, Option, None, Some, length, map, take, get_or, refl, sym, ap, ◌∙◌, append_assoc}
+use Rattle.std.proofs.Common.{◌≡◌, ℕ, ◌+◌, ◌<◌, true, false, cond, List, [], ◌∷◌, ◌++◌, Option, None, Some, length, take, get_or, refl, sym, ap, ◌∙◌, append_assoc}
 use Rattle.std.proofs.Common.{◌↔◌, Bool, IsNone, IfSome, Contains, arith, rules}
 use Rattle.std.proofs.lemmas.List.{take_more, append-nil}
 use Rattle.std.proofs.lemmas.List.Elements.{All-nil, All-cons, All-same, All-weaker, Contains-append_right}
@@ -11,7 +11,6 @@ use Rattle.static_faults.specs.First.{is_before, earlier, first_by_place, Stands
 use Rattle.static_faults.specs.Faults.{named_faults, functions_faults, faults}
 use Rattle.static_faults.specs.Parts.{function_name, function_names}
 use Rattle.static_faults.proofs.Earlier.{first_append, before_not, before_self, before_once}
-use Rattle.static_faults.proofs.NameLists.{map_append}
 
 functions_append : (before : List Text) (fs : List NamedFunction) (f : NamedFunction) → functions_faults before (fs ++ f ∷ []) ≡ functions_faults before fs ++ named_faults (before ++ function_names fs) (named_of f)
 functions_append before [] f = append-nil _ ∙ ap (λ b. named_faults b (named_of f)) (sym (append-nil before))

@@ -1,10 +1,10 @@
 -- The static faults of forms that are put together from lists.
-use Rattle.std.proofs.Common.{◌≡◌, List, [], ◌∷◌, ◌++◌, map, Option, None, Some, refl, sym, ap, ◌∙◌, append_assoc}
+use Rattle.std.proofs.Common.{◌≡◌, List, [], ◌∷◌, ◌++◌, map, refl, sym, ap, ◌∙◌, append_assoc}
 use Rattle.std.proofs.lemmas.List.{append-nil}
 use Rattle.brs_tokens.specs.declared.place.Place.{Place}
 use Rattle.brs_grammar.specs.Form as p
 use Rattle.brs_grammar.specs.Form.{Text, Form, Forms, Node, more, none, Todo, finish}
-use Rattle.brs_grammar.specs.View.{Step, Tail, Printed, Operand, Choice, Aim, Aimed, forms, join, todos, shown, chained, tailed, variable, but_last, last_of, aimed_last, aimed, assign_step, update_step, one, choices, if_step, member, index, arguments, semicolon, comma, value}
+use Rattle.brs_grammar.specs.View.{Step, Tail, Printed, Operand, Choice, Aim, forms, join, todos, shown, chained, tailed, variable, but_last, last_of, aimed_last, aimed, assign_step, update_step, choices, if_step, member, index, arguments, semicolon, comma, value}
 use Rattle.static_faults.specs.declared.fault.StaticFault.{StaticFault}
 use Rattle.static_faults.specs.declared.fault.Surroundings.{Surroundings}
 use Rattle.static_faults.specs.Faults.{aim_faults, form_faults, forms_faults, todo_faults}

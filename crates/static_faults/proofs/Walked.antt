@@ -8,13 +8,10 @@ use Rattle.brs_grammar.specs.declared.tree.LoopKind.{LoopKind}
 use Rattle.brs_grammar.specs.declared.tree.Minus.{Minus}
 use Rattle.brs_grammar.specs.declared.tree.Minus.TheVariants as minus
 use Rattle.brs_grammar.specs.declared.tree.Name.{Name}
-use Rattle.brs_grammar.specs.declared.tree.NamedFunction.{NamedFunction}
 use Rattle.brs_grammar.specs.declared.tree.NamedFunction.TheVariants as named
 use Rattle.brs_grammar.specs.declared.tree.Negation.{Negation}
 use Rattle.brs_grammar.specs.declared.tree.Negation.TheVariants as negation
-use Rattle.brs_grammar.specs.declared.tree.Postfix.{Postfix}
 use Rattle.brs_grammar.specs.declared.tree.Postfix.TheVariants as postfix
-use Rattle.brs_grammar.specs.declared.tree.Primary.{Primary}
 use Rattle.brs_grammar.specs.declared.tree.Primary.TheVariants as primary
 use Rattle.brs_grammar.specs.declared.tree.PrintItem.{PrintItem}
 use Rattle.brs_grammar.specs.declared.tree.PrintItem.TheVariants as printed
@@ -22,7 +19,6 @@ use Rattle.brs_grammar.specs.declared.tree.Simple.{Simple}
 use Rattle.brs_grammar.specs.declared.tree.Simple.TheVariants as simple
 use Rattle.brs_grammar.specs.declared.tree.Statement.{Statement}
 use Rattle.brs_grammar.specs.declared.tree.Statement.TheVariants as statement
-use Rattle.brs_grammar.specs.declared.tree.TypeWord.{TypeWord}
 use Rattle.brs_grammar.specs.declared.tree.UpdateSign.{UpdateSign}
 use Rattle.brs_grammar.specs.declared.tree.AndPart.{AndPart, out-AndPart}
 use Rattle.brs_grammar.specs.declared.tree.BlockArm.{BlockArm, out-BlockArm}
@@ -45,13 +41,13 @@ use Rattle.brs_grammar.specs.declared.tree.Target.{Target, out-Target}
 use Rattle.brs_grammar.specs.declared.tree.Value.{Value, out-Value}
 use Rattle.brs_grammar.specs.Form as p
 use Rattle.brs_grammar.specs.Form.{Text, Form, Node, more, none, Todo, finish}
-use Rattle.brs_grammar.specs.View.{Step, Tail, Printed, Operand, Choice, Entry, Formal, Callee, Aim, params, todos, called, variable, one, counted, update_step, minus_of, negation_of, postfix_of, primary_of, print_item_of, simple_of, statement_of, and_part_of, block_arm_of, comparison_of, comparison_part_of, conjunction_of, expression_of, line_arm_of, or_part_of, pair_of, parameter_of, product_of, product_part_of, rest_of, shift_of, shift_part_of, sum_of, sum_part_of, target_of, value_of, named_of}
+use Rattle.brs_grammar.specs.View.{Entry, Formal, Callee, Aim, params, todos, called, variable, one, counted, update_step, minus_of, negation_of, postfix_of, primary_of, print_item_of, simple_of, statement_of, and_part_of, block_arm_of, comparison_part_of, conjunction_of, expression_of, line_arm_of, or_part_of, pair_of, parameter_of, product_of, product_part_of, rest_of, shift_of, shift_part_of, sum_of, sum_part_of, target_of}
 use Rattle.brs_grammar.proofs.Views as v
 use Rattle.static_faults.specs.declared.fault.StaticFault.{StaticFault}
 use Rattle.static_faults.specs.declared.fault.Surroundings.{Surroundings}
 use Rattle.static_faults.specs.First.{earlier, first_by_place}
 use Rattle.static_faults.specs.Table.{gives_value, variable_faults, parameter_faults, exit_faults, returned_value_faults}
-use Rattle.static_faults.specs.Faults.{inside, form_faults, forms_faults, params_faults, todo_faults}
+use Rattle.static_faults.specs.Faults.{inside, form_faults, params_faults, todo_faults}
 use Rattle.static_faults.specs.Parts.{flat, operand_faults, tail_faults, printed_faults, step_faults, choice_faults, callee_faults, expression_faults, or_part_faults, conjunction_faults, and_part_faults, negation_faults, comparison_faults, comparison_part_faults, shift_faults, shift_part_faults, sum_faults, sum_part_faults, product_faults, product_part_faults, minus_faults, value_faults, postfix_faults, primary_faults, pair_faults, print_item_faults, plain_faults, target_faults, simple_faults, statement_faults, block_arm_faults, line_arm_faults, rest_faults, default_faults, name_of, names, each_parameter_faults, all_parameter_faults, body_faults}
 use Rattle.static_faults.proofs.Earlier.{first_append}
 use Rattle.static_faults.proofs.NameLists.{map_append}

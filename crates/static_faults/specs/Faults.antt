@@ -1,5 +1,5 @@
 -- All static faults of a source file: where the rows of the table apply.
-use Rattle.std.specs.Prelude.{Bool, true, false, List, [], ◌∷◌, ◌++◌, Option}
+use Rattle.std.specs.Prelude.{Bool, true, false, List, [], ◌∷◌, ◌++◌}
 use Rattle.brs_tokens.specs.declared.place.Place.{Place}
 use Rattle.brs_grammar.specs.declared.tree.NamedFunction.{NamedFunction}
 use Rattle.brs_grammar.specs.Form as p

@@ -1,5 +1,5 @@
 -- The first fault by place.
-use Rattle.std.specs.Prelude.{◌≡◌, Bool, true, false, if◌then◌else◌, ◌==◌, nat_lt, List, [], ◌∷◌, All, Contains, Option, None, Some}
+use Rattle.std.specs.Prelude.{◌≡◌, Bool, false, if◌then◌else◌, ◌==◌, nat_lt, List, [], ◌∷◌, All, Contains, Option, None, Some}
 use Rattle.static_faults.specs.declared.fault.StaticFault.{StaticFault}
 
 -- whether a fault stands before another one

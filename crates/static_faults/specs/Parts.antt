@@ -3,7 +3,6 @@ use Rattle.std.specs.Prelude.{Bool, List, [], ◌∷◌, ◌++◌, map, Option, 
 use Rattle.chan_values.specs.Folded.{folded}
 use Rattle.brs_tokens.specs.declared.place.Place.{Place}
 use Rattle.brs_grammar.specs.declared.tree.Minus.{Minus}
-use Rattle.brs_grammar.specs.declared.tree.Name.{Name}
 use Rattle.brs_grammar.specs.declared.tree.Negation.{Negation}
 use Rattle.brs_grammar.specs.declared.tree.Postfix.{Postfix}
 use Rattle.brs_grammar.specs.declared.tree.Primary.{Primary}
@@ -30,8 +29,8 @@ use Rattle.brs_grammar.specs.declared.tree.Sum.{Sum}
 use Rattle.brs_grammar.specs.declared.tree.SumPart.{SumPart}
 use Rattle.brs_grammar.specs.declared.tree.Target.{Target, out-Target}
 use Rattle.brs_grammar.specs.declared.tree.Value.{Value}
-use Rattle.brs_grammar.specs.Form.{Text, Form, Forms}
-use Rattle.brs_grammar.specs.View.{Step, Tail, Printed, Operand, Choice, Formal, Callee, member, index, arguments, semicolon, comma, value, minus_of, negation_of, postfix_of, primary_of, print_item_of, simple_of, statement_of, and_part_of, block_arm_of, comparison_of, comparison_part_of, conjunction_of, expression_of, line_arm_of, or_part_of, pair_of, parameter_of, product_of, product_part_of, rest_of, shift_of, shift_part_of, sum_of, sum_part_of, value_of, named_of}
+use Rattle.brs_grammar.specs.Form.{Text}
+use Rattle.brs_grammar.specs.View.{Step, Tail, Printed, Operand, Choice, Callee, member, index, arguments, semicolon, comma, value, minus_of, negation_of, postfix_of, primary_of, print_item_of, simple_of, statement_of, and_part_of, block_arm_of, comparison_of, comparison_part_of, conjunction_of, expression_of, line_arm_of, or_part_of, pair_of, product_of, product_part_of, rest_of, shift_of, shift_part_of, sum_of, sum_part_of, value_of, named_of}
 use Rattle.static_faults.specs.declared.fault.StaticFault.{StaticFault}
 use Rattle.static_faults.specs.declared.fault.Surroundings.{Surroundings}
 use Rattle.static_faults.specs.Table.{parameter_faults, variable_faults, gives_value}

@@ -21,12 +21,6 @@ pub(crate) fn earlier(a: Option<StaticFault>, b: Option<StaticFault>) -> Option<
     match (a, b) {
         (None, b) => b,
         (Some(a), None) => Some(a),
-        (Some(a), Some(b)) => {
-            if is_before(b, a) {
-                Some(b)
-            } else {
-                Some(a)
-            }
-        }
+        (Some(a), Some(b)) => { if is_before(b, a) { Some(b) } else { Some(a) } }
     }
 }

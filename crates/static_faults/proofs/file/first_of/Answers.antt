@@ -1,8 +1,4 @@
-use Rattle.std.proofs.Common.{◌∙◌, ap, take, arith}
-use Rattle.brs_grammar.specs.View.{named_of}
-use Rattle.static_faults.specs.Faults.{named_faults}
-use Rattle.static_faults.specs.First.{first_by_place}
-use Rattle.static_faults.specs.Parts.{function_names}
+use Rattle.std.proofs.Common.{arith}
 use Rattle.static_faults.proofs.Files.{file_more}
 use Rattle.static_faults.proofs.file.first_of.Goals as goal
 
