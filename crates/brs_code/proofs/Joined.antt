@@ -62,7 +62,7 @@ joined_keeps code path file fits a b =
     let before = length code.anonymous in
     let some = length file.anonymous in
     let all : length (code.anonymous ++ map (moved path before) file.anonymous) ≡ before + some =
-        length-append code.anonymous (map (moved path before) file.anonymous) ∙ ap (λ n. before + n) (length-map file.anonymous (moved path before)) in
+    length-append code.anonymous (map (moved path before) file.anonymous) ∙ ap (λ n. before + n) (length-map file.anonymous (moved path before)) in
     let N : ℕ → Type 0 = λ n. All (FunctionRule n) (code.named ++ map (moved path before) file.named) in
     let A : ℕ → Type 0 = λ n. All (FunctionRule n) (code.anonymous ++ map (moved path before) file.anonymous) in
     record {

@@ -1,5 +1,5 @@
 //! The code of several files and their scopes as one.
-ghost use Rattle.std.specs.Prelude.{◌≡◌, ◌+◌, ◌^◌, ◌<◌, [], ◌∷◌, ◌++◌, length, IfOk, OnOk, OnErr};
+ghost use Rattle.std.specs.Prelude.{◌≡◌, ◌+◌, ◌-◌, ◌^◌, ◌<◌, min, [], ◌∷◌, ◌++◌, length, IfOk, OnOk, OnErr};
 ghost use Rattle.brs_code.specs.Join.{joined, function_count};
 ghost use Rattle.brs_code.specs.Rule.{IsFilePart};
 
@@ -37,6 +37,13 @@ impl Code {
         }
     }
 
+    /// How many functions there are, with and without a name: below 2^32 in code that can be joined. Takes no memory.
+    pub fn function_count(&self) -> usize
+        ensures { result ≡ min (function_count self.now) (2 ^ 64 - 1) }
+    {
+        self.named.len().saturating_add(self.anonymous.len())
+    }
+
     /// Adds the code of a file, whose scopes are dropped. `path` is the number of its path in the listing. Answers the number of the
     /// first of its named functions: these are numbered on from those that were there, in the order of their places. After an `Err`
     /// nothing has changed.
@@ -69,7 +76,7 @@ impl Code {
     /// Adds a scope with a copy of these entries: folded names, distinct, each with the number of a named function. Answers its number,
     /// counted from 0. After an `Err` nothing has changed.
     pub fn add_scope(&mut self, alloc: Global, names: &ScopeList) -> Result<u32, NoMemory>
-        requires { length self.old.scopes + 1 < 2 ^ 32 }
+        requires { length self.old.scopes < 2 ^ 32 }
         ensures number { IfOk result (λ number. number ≡ length self.old.scopes) }
         ensures added { OnOk result (self.new ≡ record self.old { scopes = self.old.scopes ++ names.now ∷ [] }) }
         ensures unchanged { OnErr result (self.new ≡ self.old) }

@@ -68,7 +68,11 @@ fn has_marks(all: &[Mark], first: usize, count: usize, values: usize) -> bool
     match all.len().checked_sub(first) {
         Some(room) => {
             count <= room
-                && all[first..first + count].iter().filter(|mark| is_value(**mark)).count() == values
+                && all[first..first + count]
+                    .iter()
+                    .filter(|mark| is_value(**mark))
+                    .count()
+                    == values
         }
         None => false,
     }

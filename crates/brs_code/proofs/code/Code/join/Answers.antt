@@ -11,9 +11,9 @@ returns-in-Ok-clause-file_part c a b =
     let file = c.args.file in
     let more = map (moved c.args.path (length code.anonymous)) in
     let named : c.append.new.self ≡ code.named ++ more file.named =
-        c.in_ok-append.ensures.ok ∙ ap (λ l. code.named ++ l) (c.move_behind.ensures ∙ ap (λ before. map (moved c.args.path before) file.named) c.len-before.ensures) in
+    c.in_ok-append.ensures.ok ∙ ap (λ l. code.named ++ l) (c.move_behind.ensures ∙ ap (λ before. map (moved c.args.path before) file.named) c.len-before.ensures) in
     let anonymous : c.append-2.new.self ≡ code.anonymous ++ more file.anonymous =
-        c.in-Ok.ensures.ok ∙ ap (λ l. code.anonymous ++ l) (c.move_behind-2.ensures ∙ ap (λ before. map (moved c.args.path before) file.anonymous) c.len-before.ensures) in
+    c.in-Ok.ensures.ok ∙ ap (λ l. code.anonymous ++ l) (c.move_behind-2.ensures ∙ ap (λ before. map (moved c.args.path before) file.anonymous) c.len-before.ensures) in
     let fits : length code.anonymous + length file.anonymous < 2 ^ 64 = omega (arith, c.requires) in
     let N : List Function → Type 0 = λ l. IsFilePart (record { named = l; anonymous = c.append-2.new.self; scopes = code.scopes }) in
     let A : List Function → Type 0 = λ l. IsFilePart (record { named = code.named ++ more file.named; anonymous = l; scopes = code.scopes }) in
