@@ -1,14 +1,13 @@
 -- Joining keeps the file part of the rule.
-use Rattle.std.proofs.Common.{◌≡◌, ℕ, ◌+◌, ◌<◌, ◌≤◌, min, ◌++◌, ◌^◌, length, map, All, IfSome, IsSomeAnd, slice_get, Option, None, Some, refl, sym, subst, ap, ◌∙◌, arith}
+use Rattle.std.proofs.Common.{◌≡◌, ℕ, ◌+◌, ◌<◌, ◌≤◌, min, ◌++◌, ◌^◌, length, map, All, IfSome, slice_get, Option, None, Some, sym, subst, ap, ◌∙◌, arith}
 use Rattle.std.proofs.lemmas.List.{length-append, length-map}
 use Rattle.std.proofs.lemmas.List.Elements.{All-append, All-map, All-weaker}
 use Rattle.brs_code.specs.declared.code.Code.{Code}
 use Rattle.brs_code.specs.declared.function.Function.{Function}
-use Rattle.brs_code.specs.declared.function.Parameter.{Parameter}
 use Rattle.brs_code.specs.declared.instr.Instr.{Instr}
 use Rattle.brs_code.specs.declared.instr.Instr.TheVariants as i
 use Rattle.brs_code.specs.declared.instr.Placed.{Placed}
-use Rattle.brs_code.specs.Rule.{NamesExist, InstructionRule, ParameterRule, FunctionRule, IsFilePart}
+use Rattle.brs_code.specs.Rule.{NamesExist, InstructionRule, FunctionRule, IsFilePart}
 use Rattle.brs_code.specs.Join.{moved, joined}
 
 -- a function with another path, and with so many more anonymous functions before its own

@@ -2,7 +2,7 @@
 use Rattle.std.specs.Prelude.{ℕ, ◌+◌, Bool, true, false, Option, None, Some}
 use Rattle.brs_code.specs.declared.effect.Turn.{Turn}
 use Rattle.brs_code.specs.declared.instr.Instr.{Instr}
-use Rattle.brs_code.specs.declared.instr.Instr.TheVariants.{Invalid, Truth, Integer, LongInteger, Text, LoadM, Load, Function, MakeArray, MakePairs, Negate, Not, Binary, AndTest, OrTest, Member, Index, CallMember, Call, Store, StoreMember, StoreIndex, KeepMember, KeepIndex, Drop, Print, Return, ReturnInvalid, End, Branch, Jump, While, Again, For, ForStep, ForTest, ForNext, ForEach, EachNext, Exit, Bind}
+use Rattle.brs_code.specs.declared.instr.Instr.TheVariants.{MakeArray, MakePairs, Negate, Not, Binary, AndTest, OrTest, Member, Index, CallMember, Call, Store, StoreMember, StoreIndex, KeepMember, KeepIndex, Drop, Print, Return, ReturnInvalid, End, Branch, Jump, While, Again, For, ForStep, ForTest, ForNext, ForEach, EachNext, Exit, Bind}
 
 -- how many operands it takes
 abbrev pub pops : Instr → ℕ
