@@ -1,0 +1,15 @@
+//! Operations on arrays, associative arrays and messages, and reads and writes of members and
+//! indexes, each exactly by its row of the table.
+#![tactic(auto)]
+
+mod applied;
+mod array_method;
+mod map_method;
+mod message_method;
+mod receiver;
+
+pub use applied::Applied;
+pub use array_method::ArrayMethod;
+pub use map_method::MapMethod;
+pub use message_method::MessageMethod;
+pub use receiver::{Receiver, receiver_of};
