@@ -1,0 +1,5 @@
+pub mod Lists
+pub mod Seeing
+pub mod Answering
+pub mod ArrayLaws
+pub mod ArrayLoops

@@ -2,6 +2,7 @@
 use Rattle.std.specs.Prelude.{ℕ, ℤ, pos, negsuc, Bool, ◌^◌, ◌-◌, List, length, Option, Some, None, slice_get, slice_set, cond, nat_lt, min}
 use Rattle.chan_values.specs.declared.error_code.ErrorCode.{ErrorCode}
 use Rattle.chan_values.specs.declared.error_code.ErrorCode.TheVariants.{E12}
+use Rattle.heap_meaning.specs.declared.plain.Plain.{Plain}
 use Rattle.heap_meaning.specs.declared.plain.Plain.TheVariants.{Invalid, Truth, Small, Big}
 use Rattle.heap_meaning.specs.Values.{StoreValue, Scalar, Words, Reference, Entry}
 use Rattle.heap_meaning.specs.Store.{Object, ArrayObject, MapObject, Store}
@@ -26,9 +27,13 @@ or_invalid (Some v) = v
 or_invalid None = invalid
 
 -- a number of either width
+abbrev pub number_of_plain : Plain → Option ℤ
+number_of_plain (Small n) = Some n
+number_of_plain (Big n) = Some n
+number_of_plain _ = None
+
 abbrev pub number_in : StoreValue → Option ℤ
-number_in (Scalar (Small n)) = Some n
-number_in (Scalar (Big n)) = Some n
+number_in (Scalar plain) = number_of_plain plain
 number_in _ = None
 
 abbrev pub text_of : StoreValue → Option (List ℕ)

@@ -1,6 +1,6 @@
 -- The methods of arrays, for array n with its items.
 use Rattle.std.specs.Prelude.{ℕ, ℤ, pos, negsuc, true, false, ◌+◌, ◌-◌, ◌^◌, List, [], ◌∷◌, ◌++◌, length, Option, Some, None, slice_get, cond, nat_le}
-use Rattle.std.specs.List.{remove}
+use Rattle.std.specs.List.{insert, remove}
 use Rattle.chan_values.specs.declared.error_code.ErrorCode.TheVariants.{E2, E6, E12}
 use Rattle.heap_meaning.specs.Values.{StoreValue}
 use Rattle.heap_meaning.specs.Store.{Store}
@@ -57,3 +57,13 @@ method_of_array method n items _ store = Raises E6
 -- a call of a method of arrays
 abbrev pub array_row : ArrayMethod → List StoreValue → Store → Answer
 array_row method = on_array (method_of_array method)
+
+-- an item goes before those from a place on
+abbrev pub inserted : ℕ → ℕ → List StoreValue → List StoreValue → Store → Answer
+inserted i n items (v ∷ []) store = if_room (length items) (Gives invalid (with_items n (insert items i v) store))
+inserted i n items _ store = Raises E6
+
+-- the item as a list
+abbrev pub item_list : Option StoreValue → List StoreValue
+item_list (Some v) = v ∷ []
+item_list None = []

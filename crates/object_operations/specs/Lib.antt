@@ -6,3 +6,4 @@ pub mod Members
 pub mod Messages
 pub mod Types
 pub mod Applies
+pub mod Numbers

@@ -4,8 +4,10 @@
 
 mod applied;
 mod array_method;
+mod arrays;
 mod map_method;
 mod message_method;
+mod numbers;
 mod receiver;
 
 pub use applied::Applied;

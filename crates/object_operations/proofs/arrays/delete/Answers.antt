@@ -1,0 +1,1 @@
+use Rattle.object_operations.proofs.arrays.delete.Goals as goal
