@@ -1,5 +1,5 @@
 -- What calls that write an array item by item do to that of the store.
-use Rattle.std.proofs.Common.{◌≡◌, ◌≢◌, ℕ, zero, suc, ◌+◌, ◌-◌, ◌^◌, ◌<◌, ◌≤◌, List, [], ◌∷◌, ◌++◌, map, length, take, Option, Some, None, refl, sym, ap, ◌∙◌, subst, arith, append_assoc, ◌⊎◌, inl, inr, Bool, true, false}
+use Rattle.std.proofs.Common.{◌≡◌, ◌≢◌, ℕ, zero, suc, ◌+◌, ◌-◌, ◌^◌, ◌<◌, ◌≤◌, List, [], ◌∷◌, ◌++◌, map, length, take, Option, Some, None, refl, sym, ap, ◌∙◌, subst, arith, add-one, append_assoc, ◌⊎◌, inl, inr, Bool, true, false}
 use Rattle.std.specs.Prelude.{slice_get, slice_set, option_map, cond, nat_le, ℤ, pos, negsuc}
 use Rattle.std.specs.List.{insert, remove}
 use Rattle.std.proofs.lemmas.Grind.{common_steps}
@@ -115,14 +115,15 @@ clear_start h array k e = record { stands = λ name store before n items s o nam
     let f = held_length h name array items (array_held h name store before array n items s (first_belongs h name store before array [] s o) names row) in
     stands_unchanged name h store before n items row (take k items) (ap (λ j. take j items) (e ∙ f) ∙ take_whole items) s }
 
-pub clear_step : (h h1 h2 : Heap) (array : Value) (k : ℕ) → ArrayBecomes h h1 array (take (suc k)) → ArrayBecomes h1 h2 array (λ items. remove items k) → ArrayBecomes h h2 array (take k)
-clear_step h h1 h2 array k x y = record { stands = λ name store before n items s o names row.
-    let t = x.stands name store before n items s o names row in
+pub clear_step : (h h1 h2 : Heap) (array : Value) (left k : ℕ) → left ≡ suc k → ArrayBecomes h h1 array (take left) → ArrayBecomes h1 h2 array (λ items. remove items k) → ArrayBecomes h h2 array (take k)
+clear_step h h1 h2 array left k e x y = record { stands = λ name store before n items s o names row.
+    let t = subst (λ j. Stands name h1.cells (slice_set store n (ArrayObject (take j items))) before) e (x.stands name store before n items s o names row) in
     let u = y.stands name _ before n (take (suc k) items) t o names (row_set name h store before n items row (take (suc k) items)) in
     stands_again name h2 store before n items row (take (suc k) items) (remove (take (suc k) items) k) (take k items) (remove_last items k) u }
 
-pub clears : (h h1 : Heap) (array : Value) → ArrayBecomes h h1 array (take 0) → AppliesToArray h h1 array [] (a.Value (Direct Invalid)) (method_of_array Clear)
-clears h h1 array x = record { answers = λ name store before n items s o names row. gave_plain name h1 _ before Invalid (x.stands name store before n items s o names row) }
+pub clears : (h h1 : Heap) (array : Value) (left : ℕ) → left ≡ 0 → ArrayBecomes h h1 array (take left) → AppliesToArray h h1 array [] (a.Value (Direct Invalid)) (method_of_array Clear)
+clears h h1 array left e x = record { answers = λ name store before n items s o names row.
+    gave_plain name h1 _ before Invalid (subst (λ j. Stands name h1.cells (slice_set store n (ArrayObject (take j items))) before) e (x.stands name store before n items s o names row)) }
 
 -- the array for which an array of the heap stands
 pub record ArrayShown (name : Naming) (store : Store) (v : Value) : Type 0 where
@@ -175,8 +176,8 @@ pub append_start : (h : Heap) (array from : Value) → Appends h h array from (t
 append_start h array from = record { stands = λ name store before n m items more s o names row names' row'. stands_unchanged name h store before n items row (items ++ []) (append_none items) s }
 
 -- one item more of the other array, which may be the array itself
-pub append_step : (h h1 h2 : Heap) (array from : Value) (k : ℕ) → k < length_in (content_at h from) → Appends h h1 array from (take k) → Appends h1 h2 array from (λ more. item_list (slice_get more k)) → Appends h h2 array from (take (suc k))
-append_step h h1 h2 array from k l x y = record { stands = λ name store before n m items more s o names row names' row'.
+pub append_step : (h h1 h2 : Heap) (array from : Value) (k : ℕ) → k < length_in (content_at h from) → Appends h h1 array from (take k) → Appends h1 h2 array from (λ more. item_list (slice_get more k)) → Appends h h2 array from (take (k + 1))
+append_step h h1 h2 array from k l x y = subst (λ j. Appends h h2 array from (take j)) (sym (add-one k)) (record { stands = λ name store before n m items more s o names row names' row'.
     let q = held_length h name from more (array_held h name store before from m more s (second_belongs h name store before array from [] s o) names' row') in
     let t = x.stands name store before n m items more s o names row names' row' in
     let longer = items ++ take k more in
@@ -184,7 +185,7 @@ append_step h h1 h2 array from k l x y = record { stands = λ name store before 
     let z = other_row store n m items more longer row row' (omega arith) (get_front items (take k more) k) (same_or m n) in
     let u = y.stands name _ before n m longer z.0 t o names r names' z.1 in
     stands_again name h2 store before n items row longer (longer ++ item_list (slice_get z.0 k)) (items ++ take (suc k) more)
-    (ap (λ g. longer ++ item_list g) z.2 ∙ append_assoc items (take k more) (item_list (slice_get more k)) ∙ ap (λ g. items ++ g) (sym (take_more more k))) u }
+    (ap (λ g. longer ++ item_list g) z.2 ∙ append_assoc items (take k more) (item_list (slice_get more k)) ∙ ap (λ g. items ++ g) (sym (take_more more k))) u })
   where
     other_row : (store : Store) (n m : ℕ) (items more longer : List StoreValue) → slice_get store n ≡ Some (ArrayObject items) → slice_get store m ≡ Some (ArrayObject more) → k < length more
         → (k < length items → slice_get longer k ≡ slice_get items k) → (m ≡ n) ⊎ (m ≢ n)
@@ -231,3 +232,8 @@ pub still_array : (old new : Heap) (v : Value) (change : List Value → List Val
 still_array old new v change r =
     let e : content_at new v ≡ Some (Array (change r.changes.items)) = ap (content_at new) r.is ∙ ap (option_map (λ c. c.content)) r.holds ∙ ap Some r.changes.is in
     subst HoldsArray (sym e) tt
+
+-- what was answered and is no `Some`
+pub none_of : {A : Type 0} {x : Option A} (y : Option A) → y ≡ x → ((v : A) → y ≡ Some v → ⊥) → x ≡ None
+none_of {x = x} None e d = sym e
+none_of (Some v) e d = absurd (d v refl)
