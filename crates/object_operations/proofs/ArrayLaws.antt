@@ -22,7 +22,7 @@ use Rattle.object_operations.specs.declared.applied.Applied.TheVariants as a
 use Rattle.object_operations.proofs.Seeing.{first_belongs, second_belongs, array_held, held_length, held_item}
 use Rattle.object_operations.proofs.Answering.{gave_plain, gave_out, gave_shared}
 
-room : (n : ℕ) (x : Answer) → n < 2 ^ 20 → if_room n x ≡ x
+pub room : (n : ℕ) (x : Answer) → n < 2 ^ 20 → if_room n x ≡ x
 room n x l = grind (arith, common_steps)
 
 pub no_room : (n : ℕ) (x : Answer) → 2 ^ 20 ≤ n → if_room n x ≡ Raises E12

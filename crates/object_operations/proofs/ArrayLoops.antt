@@ -20,7 +20,7 @@ use Rattle.heap_meaning.proofs.Writes.{get_front, get_set_same, get_set_other}
 use Rattle.heap_meaning.proofs.Showing.{Seen, sees_plain, sees_text, sees_array, sees_pairs, sees_message, sees}
 use Rattle.object_operations.specs.Answer.{Answer, Gives, Raises, invalid, truth, with_items, number_of_plain, number_in, items_of, items_of_object}
 use Rattle.object_operations.specs.Arrays.{removed, deleted, appended, item_list, method_of_array}
-use Rattle.object_operations.specs.Maps.{is_some}
+use Rattle.std.specs.Option.{is_some}
 use Rattle.object_operations.specs.Numbers.{number_of, place_at}
 use Rattle.object_operations.specs.Receivers.{ArrayRow}
 use Rattle.object_operations.specs.Applies.{Gave, Answers, AreOut, AppliesToArray, ArrayBecomes, Appends}

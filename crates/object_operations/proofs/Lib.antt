@@ -1,5 +1,7 @@
 pub mod Lists
 pub mod Seeing
+pub mod Entries
 pub mod Answering
 pub mod ArrayLaws
 pub mod ArrayLoops
+pub mod MapLaws

@@ -61,3 +61,10 @@ pub record Appends (old new : Heap) (array from : Value) (part : List StoreValue
     → meaning name array ≡ Reference n → slice_get store n ≡ Some (ArrayObject items)
     → meaning name from ≡ Reference m → slice_get store m ≡ Some (ArrayObject more)
     → Stands name new.cells (slice_set store n (ArrayObject (items ++ part more))) before
+
+-- whatever the store that the heap stands for, the associative array's entries change in this way
+pub record MapBecomes (old new : Heap) (pairs : Value) (change : List (Entry StoreValue) → List (Entry StoreValue)) : Type 0 where
+  pub stands : (name : Naming) (store : Store) (before : Outside) (n : ℕ) (entries : List (Entry StoreValue))
+    → Stands name old.cells store before → AreOut (pairs ∷ []) before
+    → meaning name pairs ≡ Reference n → slice_get store n ≡ Some (MapObject entries)
+    → Stands name new.cells (slice_set store n (MapObject (change entries))) before

@@ -1,6 +1,6 @@
 -- The methods of associative arrays, for associative array n with its entries.
 use Rattle.std.specs.Prelude.{ℕ, true, false, Bool, ◌+◌, ◌^◌, List, [], ◌∷◌, ◌++◌, map, length, Option, Some, None, cond, nat_le}
-use Rattle.std.specs.List.{count_by}
+use Rattle.std.specs.Option.{is_some}
 use Rattle.chan_values.specs.Folded.{folded}
 use Rattle.chan_values.specs.declared.error_code.ErrorCode.TheVariants.{E2, E6, E12}
 use Rattle.heap_meaning.specs.Values.{StoreValue, Words, Reference, Entry}
@@ -24,10 +24,6 @@ put_row n entries None v store = Raises E2
 abbrev pub looked_up : List (Entry StoreValue) → Option (List ℕ) → Store → Answer
 looked_up entries (Some key) store = Gives (or_invalid (value_at_key entries (folded key))) store
 looked_up entries None store = Raises E2
-
-abbrev pub is_some : {A : Type 0} → Option A → Bool
-is_some (Some v) = true
-is_some None = false
 
 abbrev pub existing : List (Entry StoreValue) → Option (List ℕ) → Store → Answer
 existing entries (Some key) store = Gives (truth (is_some (value_at_key entries (folded key)))) store

@@ -4,7 +4,7 @@ ghost use Rattle.heap_meaning.specs.Heap.{content_at};
 ghost use Rattle.heap_meaning.specs.Reading.{HoldsArray, item_in, length_in};
 ghost use Rattle.object_operations.specs.Applies.{AppliesToArray, ArrayBecomes, Appends};
 ghost use Rattle.std.specs.List.{remove};
-ghost use Rattle.object_operations.specs.Maps.{is_some};
+ghost use Rattle.std.specs.Option.{is_some};
 ghost use Rattle.object_operations.specs.Arrays.{inserted, taken, item_list, method_of_array};
 ghost use Rattle.object_operations.specs.declared.array_method.ArrayMethod.TheVariants.{Push, Unshift, Pop, Shift, Peek, Delete, Count, Clear, Append};
 

@@ -6,6 +6,7 @@ mod applied;
 mod array_method;
 mod arrays;
 mod map_method;
+mod maps;
 mod message_method;
 mod numbers;
 mod receiver;
