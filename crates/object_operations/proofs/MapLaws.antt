@@ -161,3 +161,7 @@ counts_keys h pairs v e = record { answers = λ name store before n entries s o 
 pub some_copied : {A : Type 0} (x : Option (Bor A)) → is_some x ≡ is_some (option_copied x)
 some_copied None = refl
 some_copied (Some v) = refl
+
+-- a reference that was handed back and then taken back
+pub moves_back : (h1 h1' h2 : Heap) (v shared : Value) → h1' ≡ h1 → v ≡ shared → Moves h1' h2 (references_of v) no_references → Moves h1 h2 (references_of shared) no_references
+moves_back h1 h1' h2 v shared e f m = subst (λ (h : Heap). Moves h h2 (references_of shared) no_references) e (subst (λ u. Moves h1' h2 (references_of u) no_references) f m)
