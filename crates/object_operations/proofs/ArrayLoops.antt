@@ -78,11 +78,11 @@ deletes_no_number h array i e = record { answers = λ name store before n items 
     let f = number_seen h name store before i s (second_belongs h name store before array i [] s o) ∙ e in
     subst (λ x. Answers name h before (a.Raised E2) (deleted n items x store)) (sym f) refl }
 
-below : (n : ℤ) → place_at n ≡ None → (i : ℕ) × (n ≡ negsuc i)
+pub below : (n : ℤ) → place_at n ≡ None → (i : ℕ) × (n ≡ negsuc i)
 below (pos i) e = absurd cc
 below (negsuc i) e = (i, refl)
 
-within : (n : ℤ) (i : ℕ) → place_at n ≡ Some i → n ≡ pos i
+pub within : (n : ℤ) (i : ℕ) → place_at n ≡ Some i → n ≡ pos i
 within (pos j) i e = cc
 within (negsuc j) i e = absurd cc
 

@@ -5,3 +5,7 @@ pub mod Answering
 pub mod ArrayLaws
 pub mod ArrayLoops
 pub mod MapLaws
+pub mod MapLoops
+pub mod ItemLaws
+pub mod Told
+pub mod Listing

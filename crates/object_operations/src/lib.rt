@@ -7,12 +7,16 @@ mod array_method;
 mod arrays;
 mod map_method;
 mod maps;
+mod members;
 mod message_method;
+mod methods;
 mod numbers;
 mod receiver;
 
 pub use applied::Applied;
 pub use array_method::ArrayMethod;
 pub use map_method::MapMethod;
+pub use members::{read_index, read_member, write_index, write_member};
 pub use message_method::MessageMethod;
+pub use methods::call_array_method;
 pub use receiver::{Receiver, receiver_of};

@@ -122,10 +122,13 @@ fn drop_key(alloc: Global, heap: &mut Heap, pairs: &Value, at: usize) -> Result<
         None => return Ok(()),
         Some(key) => copy_text(alloc, key)?,
     };
-    if let Some(item) = heap.take_key(pairs, key.as_str().as_bytes()) {
-        heap.release(item);
+    match heap.take_key(pairs, key.as_str().as_bytes()) {
+        None => Ok(()),
+        Some(item) => {
+            heap.release(item);
+            Ok(())
+        }
     }
-    Ok(())
 }
 
 /// `clear()`

@@ -2,9 +2,10 @@
 ghost use Rattle.std.specs.Prelude.{◌≡◌};
 ghost use Rattle.heap_meaning.specs.Heap.{content_at};
 ghost use Rattle.heap_meaning.specs.Reading.{plain_of};
-ghost use Rattle.object_operations.specs.Receivers.{receiver_in};
+ghost use Rattle.object_operations.specs.Receivers.{receiver_in, refusal_of};
 
 use brs_heap::{Heap, Plain, Shape, Value};
+use chan_values::ErrorCode;
 
 /// What a method is called on, or a member or an index belongs to.
 #[derive(Clone, Copy, Debug, PartialEq, Eq)]
@@ -30,5 +31,15 @@ pub fn receiver_of(heap: &Heap, v: &Value) -> Receiver
             Shape::Message => Receiver::Message,
             Shape::Words | Shape::Plain => Receiver::Other,
         },
+    }
+}
+
+/// The error of what isn't the kind that is wanted: E7 on `invalid`.
+pub fn refusal(receiver: Receiver, other: ErrorCode) -> ErrorCode
+    ensures { result ≡ refusal_of receiver other }
+{
+    match receiver {
+        Receiver::Invalid => ErrorCode::E7,
+        _ => other,
     }
 }
