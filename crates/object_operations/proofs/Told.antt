@@ -217,3 +217,10 @@ refuses_map h x arguments method kind error e f d = refused h x arguments (on_ma
 
 pub refuses_message : (h : Heap) (x : Value) (arguments : List Value) (method : MessageRow) (kind : Receiver) (error : ErrorCode) → kind ≡ receiver_in (plain_of x) (content_at h x) → error ≡ refusal_of kind E4 → kind ≢ r.Message → Applies h h (x ∷ arguments) (a.Raised error) (on_message method)
 refuses_message h x arguments method kind error e f d = refused h x arguments (on_message method) kind error e (λ name store w q. message_error method kind w (map (meaning name) arguments) store d q ∙ ap Raises (sym f))
+
+-- a number of arguments that no method of this name takes
+pub wrong_number : (h : Heap) (array : Value) (arguments : List Value) (row : ArrayRow) → ((n : ℕ) (items ws : List StoreValue) (store : Store) (name : Naming) → row n items (map (meaning name) arguments) store ≡ Raises E6) → AppliesToArray h h array arguments (a.Raised E6) row
+wrong_number h array arguments row same = record { answers = λ name store before n items s o names there. subst (Answers name h before (a.Raised E6)) (sym (same n items [] store name)) refl }
+
+pub wrong_map_number : (h : Heap) (pairs : Value) (arguments : List Value) (row : MapRow) → ((n : ℕ) (entries : List (Entry StoreValue)) (store : Store) (name : Naming) → row n entries (map (meaning name) arguments) store ≡ Raises E6) → AppliesToMap h h pairs arguments (a.Raised E6) row
+wrong_map_number h pairs arguments row same = record { answers = λ name store before n entries s o names there. subst (Answers name h before (a.Raised E6)) (sym (same n entries store name)) refl }

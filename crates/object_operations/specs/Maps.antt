@@ -9,7 +9,7 @@ use Rattle.heap_meaning.specs.Store.{ArrayObject, Store}
 use Rattle.object_operations.specs.Answer.{Answer, Gives, Raises, invalid, truth, counted, or_invalid, text_of, entries_of, with_entries, if_room}
 use Rattle.object_operations.specs.Receivers.{on_map}
 use Rattle.object_operations.specs.declared.map_method.MapMethod.{MapMethod}
-use Rattle.object_operations.specs.declared.map_method.MapMethod.TheVariants.{AddReplace, Clear, Append, Lookup, DoesExist, Delete, Count, Keys}
+use Rattle.object_operations.specs.declared.map_method.MapMethod.TheVariants.{AddReplace, Clear, Lookup, DoesExist, Delete, Count}
 
 -- the value at a folded key, which needs room where the key is new
 abbrev pub put_at : ℕ → List (Entry StoreValue) → List ℕ → Option StoreValue → StoreValue → Store → Answer
@@ -53,16 +53,24 @@ abbrev pub joined_row : ℕ → List (Entry StoreValue) → Option (List (Entry 
 joined_row n entries (Some more) store = cond (nat_le (length entries + new_keys entries more) (2 ^ 20)) (Gives invalid (with_entries n (joined entries more) store)) (Raises E12)
 joined_row n entries None store = Raises E2
 
+-- `append(aa)`
+abbrev pub append_keys_row : ℕ → List (Entry StoreValue) → List StoreValue → Store → Answer
+append_keys_row n entries (a ∷ []) store = joined_row n entries (entries_of a store) store
+append_keys_row n entries _ store = Raises E6
+
+-- `keys()`: a new array of the keys in ascending order
+abbrev pub keys_row : ℕ → List (Entry StoreValue) → List StoreValue → Store → Answer
+keys_row n entries [] store = Gives (Reference (length store)) (store ++ ArrayObject (map Words (keys_of entries)) ∷ [])
+keys_row n entries _ store = Raises E6
+
 -- methods without arguments
 abbrev pub bare_map_row : MapMethod → ℕ → List (Entry StoreValue) → Store → Answer
 bare_map_row Clear n entries store = Gives invalid (with_entries n [] store)
 bare_map_row Count n entries store = Gives (counted (length entries)) store
-bare_map_row Keys n entries store = Gives (Reference (length store)) (store ++ ArrayObject (map Words (keys_of entries)) ∷ [])
 bare_map_row _ n entries store = Raises E6
 
 -- methods with one argument
 abbrev pub map_row_with : MapMethod → ℕ → List (Entry StoreValue) → StoreValue → Store → Answer
-map_row_with Append n entries a store = joined_row n entries (entries_of a store) store
 map_row_with Lookup n entries k store = looked_up entries (text_of k) store
 map_row_with DoesExist n entries k store = existing entries (text_of k) store
 map_row_with Delete n entries k store = deleted_row n entries (text_of k) store

@@ -9,8 +9,6 @@ pub enum MapMethod {
     AddReplace,
     /// `clear()`: all keys are gone.
     Clear,
-    /// `append(aa)`: the keys and values of another associative array.
-    Append,
     /// `lookup(k)`: the value at a key, or `invalid`.
     Lookup,
     /// `doesExist(k)`: whether the key is there.
@@ -19,6 +17,4 @@ pub enum MapMethod {
     Delete,
     /// `count()`: the number of keys.
     Count,
-    /// `keys()`: an array of the keys in ascending order.
-    Keys,
 }
