@@ -7,5 +7,6 @@ pub mod ArrayLoops
 pub mod MapLaws
 pub mod MapLoops
 pub mod ItemLaws
+pub mod TypeLaws
 pub mod Told
 pub mod Listing
