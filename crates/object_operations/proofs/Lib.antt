@@ -1,0 +1,12 @@
+pub mod Lists
+pub mod Seeing
+pub mod Entries
+pub mod Answering
+pub mod ArrayLaws
+pub mod ArrayLoops
+pub mod MapLaws
+pub mod MapLoops
+pub mod ItemLaws
+pub mod TypeLaws
+pub mod Told
+pub mod Listing

@@ -1,0 +1,15 @@
+use Rattle.std.proofs.Common.{rules, arith, sym, ap, [], ◌∷◌, ◌∙◌}
+use Rattle.object_operations.proofs.Answering.{through}
+use Rattle.object_operations.proofs.Listing.{three}
+use Rattle.object_operations.proofs.Told.{refuses_write_member, writes_member, with_arguments}
+use Rattle.object_operations.proofs.members.write_member.Goals as goal
+
+pub returns-in-Pairs-clause-answer : goal.returns-in-Pairs-clause-answer
+returns-in-Pairs-clause-answer c =
+    let list = three c.args.arguments.now c.x-item.result c.k-item.result c.v-item.result c.in-len3.len_at_least c.in-len3.len_below c.x-item.is c.k-item.is c.v-item.is in
+    through c.put.result (λ r x. with_arguments (c.x-item.result ∷ c.k-item.result ∷ c.v-item.result ∷ []) list (writes_member c.args.heap.now c.put.new.heap c.x-item.result c.k-item.result c.v-item.result r (search rules) x)) c.put.ensures.answer
+
+pub returns-in_default-receiver_of : goal.returns-in_default-receiver_of
+returns-in_default-receiver_of c =
+    let list = three c.args.arguments.now c.x-item.result c.k-item.result c.v-item.result c.in-len3.len_at_least c.in-len3.len_below c.x-item.is c.k-item.is c.v-item.is in
+    record { answer = with_arguments (c.x-item.result ∷ c.k-item.result ∷ c.v-item.result ∷ []) list (refuses_write_member c.args.heap.now c.x-item.result c.k-item.result c.v-item.result c.receiver_of.result c.refusal.result c.receiver_of.ensures c.refusal.ensures c.in_default-receiver_of.not-Pairs); shares = omega arith }
