@@ -132,11 +132,7 @@ fn drop_key(alloc: Global, heap: &mut Heap, pairs: &Value, at: usize) -> Result<
 }
 
 /// `clear()`
-pub fn clear_keys(
-    alloc: Global,
-    heap: &mut Heap,
-    pairs: &Value,
-) -> Result<Applied, NoMemory>
+pub fn clear_keys(alloc: Global, heap: &mut Heap, pairs: &Value) -> Result<Applied, NoMemory>
     ensures answer { IfOk result (λ r. AppliesToMap heap.old heap.new pairs.now [] r (method_of_map Clear)) }
     ensures shares { heap.new.shares ≡ heap.old.shares }
 {

@@ -50,11 +50,7 @@ fn type_name_of(heap: &Heap, v: &Value) -> &'static str
 /// `Type(v)`
 ///
 /// Source: BrightScript Language Reference, "Runtime Functions": Type.
-pub fn call_type(
-    alloc: Global,
-    heap: &mut Heap,
-    arguments: &[Value],
-) -> Result<Applied, NoMemory>
+pub fn call_type(alloc: Global, heap: &mut Heap, arguments: &[Value]) -> Result<Applied, NoMemory>
     ensures answer { IfOk result (λ r. Applies heap.old heap.new arguments.now r type_row) }
     ensures shares { heap.new.shares ≡ heap.old.shares }
 {
