@@ -1,22 +1,22 @@
 -- What calls on an array of the heap do to that of the store.
-use Rattle.std.proofs.Common.{◌≡◌, ℕ, zero, suc, ◌+◌, ◌-◌, ◌^◌, ◌<◌, ◌≤◌, List, [], ◌∷◌, ◌++◌, map, length, Option, Some, None, refl, sym, ap, ◌∙◌, subst, arith}
-use Rattle.std.specs.Prelude.{slice_get, slice_set, option_map, cond, nat_lt, pos, min}
-use Rattle.std.specs.List.{insert, remove}
+use Rattle.std.proofs.Common.{◌≡◌, ℕ, ◌+◌, ◌-◌, ◌^◌, ◌<◌, ◌≤◌, List, [], ◌∷◌, ◌++◌, length, Some, None, refl, sym, ap, ◌∙◌, subst, arith}
+use Rattle.std.specs.Prelude.{slice_get, slice_set, option_map, pos, min}
+use Rattle.std.specs.List.{insert}
 use Rattle.std.proofs.lemmas.Grind.{common_steps}
 use Rattle.std.proofs.lemmas.List.Edits.{insert_end}
 use Rattle.chan_values.specs.declared.error_code.ErrorCode.TheVariants.{E12}
 use Rattle.heap_meaning.specs.declared.plain.Plain.TheVariants.{Invalid, Small}
-use Rattle.heap_meaning.specs.Values.{Value, Direct, StoreValue, Reference}
-use Rattle.heap_meaning.specs.Store.{ArrayObject, Store}
-use Rattle.heap_meaning.specs.Cells.{occurrence, occurrences}
-use Rattle.heap_meaning.specs.Stands.{Naming, Outside, meaning, Stands}
+use Rattle.heap_meaning.specs.Values.{Value, Direct}
+use Rattle.heap_meaning.specs.Store.{ArrayObject}
+use Rattle.heap_meaning.specs.Cells.{occurrence}
+use Rattle.heap_meaning.specs.Stands.{Outside, meaning, Stands}
 use Rattle.heap_meaning.specs.Heap.{Heap, Belongs, Moves, InsertsItem, TakesItem, no_references, references_of, content_at}
 use Rattle.heap_meaning.specs.Reading.{item_in, length_in}
 use Rattle.object_operations.specs.Answer.{Answer, Gives, Raises, invalid, if_room, with_items, or_invalid, counted}
 use Rattle.object_operations.specs.Arrays.{inserted, taken, took, method_of_array}
 use Rattle.object_operations.specs.declared.array_method.ArrayMethod.TheVariants.{Push, Pop, Peek, Count}
 use Rattle.object_operations.specs.Receivers.{ArrayRow}
-use Rattle.object_operations.specs.Applies.{Gave, Answers, AreOut, AppliesToArray, ArrayBecomes}
+use Rattle.object_operations.specs.Applies.{Answers, AppliesToArray}
 use Rattle.object_operations.specs.declared.applied.Applied.{Applied}
 use Rattle.object_operations.specs.declared.applied.Applied.TheVariants as a
 use Rattle.object_operations.proofs.Seeing.{first_belongs, second_belongs, array_held, held_length, held_item}

@@ -1,29 +1,27 @@
 -- What calls that write an array item by item do to that of the store.
-use Rattle.std.proofs.Common.{◌≡◌, ◌≢◌, ℕ, zero, suc, ◌+◌, ◌-◌, ◌^◌, ◌<◌, ◌≤◌, List, [], ◌∷◌, ◌++◌, map, length, take, Option, Some, None, refl, sym, ap, ◌∙◌, subst, arith, add-one, append_assoc, ◌⊎◌, inl, inr, Bool, true, false}
+use Rattle.std.proofs.Common.{◌≡◌, ◌≢◌, ℕ, suc, ◌+◌, ◌-◌, ◌^◌, ◌<◌, ◌≤◌, List, [], ◌∷◌, ◌++◌, map, length, take, Option, Some, None, refl, sym, ap, ◌∙◌, subst, arith, add-one, append_assoc, ◌⊎◌, inl, inr, Bool, true, false}
 use Rattle.std.specs.Prelude.{slice_get, slice_set, option_map, cond, nat_le, ℤ, pos, negsuc}
 use Rattle.std.specs.List.{insert, remove}
 use Rattle.std.proofs.lemmas.Grind.{common_steps}
 use Rattle.std.proofs.lemmas.List.Edits.{insert_end}
 use Rattle.std.proofs.lemmas.Option.{slice_get_within}
 use Rattle.chan_values.specs.declared.error_code.ErrorCode.TheVariants.{E2, E12}
-use Rattle.heap_meaning.specs.declared.plain.Plain.{Plain}
 use Rattle.heap_meaning.specs.declared.plain.Plain.TheVariants.{Invalid, Truth}
-use Rattle.heap_meaning.specs.Values.{Value, Direct, StoreValue, Scalar, Reference}
-use Rattle.heap_meaning.specs.Store.{Object, ArrayObject, MapObject, MessageObject, Store}
-use Rattle.heap_meaning.specs.Cells.{Content, Text, Array, Pairs, Message, occurrence, occurrences}
-use Rattle.heap_meaning.specs.Stands.{Naming, Outside, meaning, entry_meaning, Stands}
+use Rattle.heap_meaning.specs.Values.{Value, Direct, StoreValue, Reference}
+use Rattle.heap_meaning.specs.Store.{ArrayObject, Store}
+use Rattle.heap_meaning.specs.Cells.{Content, Array, occurrence}
+use Rattle.heap_meaning.specs.Stands.{Naming, Outside, meaning, Stands}
 use Rattle.heap_meaning.specs.Heap.{Heap, Belongs, Moves, InsertsItem, TakesItem, no_references, references_of, content_at}
 use Rattle.heap_meaning.specs.Framing.{Rewritten, ItemsChange}
 use Rattle.heap_meaning.specs.Reading.{item_in, length_in, plain_of, HoldsArray}
 use Rattle.heap_meaning.proofs.Counts.{same_or}
 use Rattle.heap_meaning.proofs.Writes.{get_front, get_set_same, get_set_other}
 use Rattle.heap_meaning.proofs.Showing.{Seen, sees_plain, sees_text, sees_array, sees_pairs, sees_message, sees}
-use Rattle.object_operations.specs.Answer.{Answer, Gives, Raises, invalid, truth, with_items, number_of_plain, number_in, items_of, items_of_object}
+use Rattle.object_operations.specs.Answer.{Answer, Raises, number_in, items_of, items_of_object}
 use Rattle.object_operations.specs.Arrays.{removed, deleted, appended, item_list, method_of_array}
 use Rattle.std.specs.Option.{is_some}
 use Rattle.object_operations.specs.Numbers.{number_of, place_at}
-use Rattle.object_operations.specs.Receivers.{ArrayRow}
-use Rattle.object_operations.specs.Applies.{Gave, Answers, AreOut, AppliesToArray, ArrayBecomes, Appends}
+use Rattle.object_operations.specs.Applies.{Answers, AppliesToArray, ArrayBecomes, Appends}
 use Rattle.object_operations.specs.declared.array_method.ArrayMethod.TheVariants.{Delete, Clear, Append}
 use Rattle.object_operations.specs.declared.applied.Applied.TheVariants as a
 use Rattle.object_operations.proofs.Lists.{set_same, set_set, remove_past, remove_last, take_whole, take_more, append_none}

@@ -1,17 +1,16 @@
 -- Reads and writes of an array at a number.
-use Rattle.std.proofs.Common.{◌≡◌, ℕ, ◌+◌, ◌-◌, ◌^◌, ◌<◌, ◌≤◌, List, [], ◌∷◌, map, length, Option, Some, None, refl, sym, ap, ◌∙◌, subst, arith}
-use Rattle.std.specs.Prelude.{slice_get, slice_set, option_map, cond, nat_lt, ℤ, pos, negsuc}
-use Rattle.std.proofs.lemmas.Grind.{common_steps}
+use Rattle.std.proofs.Common.{◌≡◌, ℕ, ◌+◌, ◌^◌, ◌<◌, ◌≤◌, [], ◌∷◌, Some, None, refl, sym, ap, ◌∙◌, subst, arith}
+use Rattle.std.specs.Prelude.{slice_set, option_map, ℤ, pos}
 use Rattle.chan_values.specs.declared.error_code.ErrorCode.TheVariants.{E2, E12}
 use Rattle.heap_meaning.specs.declared.plain.Plain.TheVariants.{Invalid}
-use Rattle.heap_meaning.specs.Values.{Value, Direct, StoreValue, Reference, filler_meant}
+use Rattle.heap_meaning.specs.Values.{Value, Direct, filler_meant}
 use Rattle.heap_meaning.specs.Keys.{placed}
-use Rattle.heap_meaning.specs.Store.{ArrayObject, Store}
-use Rattle.heap_meaning.specs.Cells.{occurrence, occurrences}
-use Rattle.heap_meaning.specs.Stands.{Naming, Outside, meaning, Stands}
+use Rattle.heap_meaning.specs.Store.{ArrayObject}
+use Rattle.heap_meaning.specs.Cells.{occurrence}
+use Rattle.heap_meaning.specs.Stands.{Outside, meaning, Stands}
 use Rattle.heap_meaning.specs.Heap.{Heap, Belongs, Moves, SetsItem, no_references, references_of, content_at}
 use Rattle.heap_meaning.specs.Reading.{item_in, plain_of}
-use Rattle.object_operations.specs.Answer.{Answer, Gives, Raises, invalid, or_invalid, item_at, number_in, with_items}
+use Rattle.object_operations.specs.Answer.{Gives, or_invalid, number_in}
 use Rattle.object_operations.specs.Members.{item_read, item_written, read_item, write_item}
 use Rattle.object_operations.specs.Numbers.{number_of, place_at}
 use Rattle.object_operations.specs.Applies.{Answers, AppliesToArray}

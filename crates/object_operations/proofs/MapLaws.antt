@@ -1,32 +1,29 @@
 -- What calls on an associative array of the heap do to that of the store.
-use Rattle.std.proofs.Common.{◌≡◌, ℕ, zero, suc, ◌+◌, ◌-◌, ◌^◌, ◌<◌, ◌≤◌, List, [], ◌∷◌, ◌++◌, map, length, Option, Some, None, refl, sym, ap, ◌∙◌, subst, arith, Bool, true, false, ◌⊎◌, inl, inr}
-use Rattle.std.specs.Prelude.{slice_get, slice_set, option_map, cond, nat_lt, pos, min}
-use Rattle.std.specs.List.{remove}
+use Rattle.std.proofs.Common.{◌≡◌, ℕ, ◌+◌, ◌-◌, ◌^◌, ◌≤◌, List, [], ◌∷◌, length, Option, Some, None, refl, sym, ap, ◌∙◌, subst, arith, Bool, true, false, ◌⊎◌, inl, inr}
+use Rattle.std.specs.Prelude.{slice_set, option_map, pos, min}
 use Rattle.std.specs.Option.{is_some, option_copied}
 use denote.Bor.{Bor}
-use Rattle.std.proofs.lemmas.Grind.{common_steps}
 use Rattle.chan_values.specs.Folded.{folded}
-use Rattle.chan_values.specs.Portable.{IsKeyList}
 use Rattle.chan_values.specs.declared.error_code.ErrorCode.TheVariants.{E2, E12}
 use Rattle.heap_meaning.specs.declared.plain.Plain.TheVariants.{Invalid, Small, Truth}
-use Rattle.heap_meaning.specs.Values.{Value, Direct, StoreValue, Reference, Entry}
-use Rattle.heap_meaning.specs.Keys.{keys_of, value_at_key, with_key, without_key}
+use Rattle.heap_meaning.specs.Values.{Value, Direct, StoreValue, Entry}
+use Rattle.heap_meaning.specs.Keys.{value_at_key, with_key}
 use Rattle.heap_meaning.specs.Store.{MapObject, Store}
-use Rattle.heap_meaning.specs.Cells.{Content, occurrence, occurrences}
+use Rattle.heap_meaning.specs.Cells.{Content, occurrence}
 use Rattle.heap_meaning.specs.Stands.{Naming, Outside, meaning, Stands}
 use Rattle.heap_meaning.specs.Heap.{Heap, Belongs, Moves, SetsKey, TakesKey, no_references, references_of, content_at}
-use Rattle.heap_meaning.specs.Reading.{length_in, value_in, text_in, keys_in, IsFull}
+use Rattle.heap_meaning.specs.Reading.{length_in, value_in, text_in, IsFull}
 use Rattle.heap_meaning.proofs.Lists.{lt_or}
-use Rattle.object_operations.specs.Answer.{Answer, Gives, Raises, invalid, truth, if_room, with_entries, or_invalid, counted, text_of}
+use Rattle.object_operations.specs.Answer.{Gives, invalid, truth, with_entries, or_invalid, counted}
 use Rattle.object_operations.specs.Maps.{put_at, put_row, looked_up, existing, removed_key, deleted_row, method_of_map}
 use Rattle.object_operations.specs.declared.map_method.MapMethod.TheVariants.{AddReplace, Lookup, DoesExist, Delete, Count}
 use Rattle.object_operations.specs.Receivers.{MapRow}
-use Rattle.object_operations.specs.Applies.{Gave, Answers, AreOut, AppliesToMap, MapBecomes}
+use Rattle.object_operations.specs.Applies.{Gave, Answers, AppliesToMap}
 use Rattle.object_operations.specs.declared.applied.Applied.{Applied}
 use Rattle.object_operations.specs.declared.applied.Applied.TheVariants as a
-use Rattle.object_operations.proofs.Seeing.{first_belongs, second_belongs, MapHeld, map_held}
+use Rattle.object_operations.proofs.Seeing.{first_belongs, second_belongs, map_held}
 use Rattle.object_operations.proofs.Entries.{held_value, held_entries, text_seen}
-use Rattle.object_operations.proofs.Answering.{gave_plain, gave_out, gave_shared}
+use Rattle.object_operations.proofs.Answering.{gave_plain, gave_shared}
 use Rattle.object_operations.proofs.ArrayLaws.{room, no_room}
 
 pub map_handed : {h h1 : Heap} {pairs : Value} {arguments : List Value} {row : MapRow} {v u : Value} → v ≡ u → AppliesToMap h h1 pairs arguments (a.Value u) row → AppliesToMap h h1 pairs arguments (a.Value v) row

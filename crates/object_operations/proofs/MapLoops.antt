@@ -1,22 +1,22 @@
 -- What calls that write an associative array key by key do to that of the store.
-use Rattle.std.proofs.Common.{◌≡◌, ◌≢◌, ℕ, zero, suc, ◌+◌, ◌-◌, ◌^◌, ◌<◌, ◌≤◌, List, [], ◌∷◌, ◌++◌, map, length, take, Option, Some, None, refl, sym, ap, ◌∙◌, subst, arith}
+use Rattle.std.proofs.Common.{◌≡◌, ℕ, suc, ◌+◌, List, [], take, Some, None, sym, ap, ◌∙◌, subst, arith}
 use Rattle.std.specs.Prelude.{slice_get, slice_set, option_map}
 use Rattle.std.specs.List.{remove}
 use Rattle.std.proofs.lemmas.Option.{slice_get_within}
 use Rattle.chan_values.specs.Folded.{folded}
 use Rattle.chan_values.specs.Portable.{IsKeyList}
 use Rattle.heap_meaning.specs.declared.plain.Plain.TheVariants.{Invalid}
-use Rattle.heap_meaning.specs.Values.{Value, Direct, StoreValue, Reference, Entry}
+use Rattle.heap_meaning.specs.Values.{Value, Direct, StoreValue, Entry}
 use Rattle.heap_meaning.specs.Keys.{keys_of, value_at_key, without_key}
 use Rattle.heap_meaning.specs.Store.{MapObject, Store}
-use Rattle.heap_meaning.specs.Cells.{occurrence, occurrences}
+use Rattle.heap_meaning.specs.Cells.{occurrence}
 use Rattle.heap_meaning.specs.Stands.{Naming, Outside, meaning, Stands}
-use Rattle.heap_meaning.specs.Heap.{Heap, Belongs, Moves, TakesKey, no_references, references_of, content_at}
+use Rattle.heap_meaning.specs.Heap.{Heap, Moves, TakesKey, no_references, references_of, content_at}
 use Rattle.heap_meaning.specs.Reading.{length_in, value_in, keys_in}
 use Rattle.heap_meaning.proofs.Writes.{get_set_same}
 use Rattle.object_operations.specs.Maps.{method_of_map}
 use Rattle.object_operations.specs.declared.map_method.MapMethod.TheVariants.{Clear}
-use Rattle.object_operations.specs.Applies.{Answers, AreOut, AppliesToMap, MapBecomes}
+use Rattle.object_operations.specs.Applies.{AppliesToMap, MapBecomes}
 use Rattle.object_operations.specs.declared.applied.Applied.TheVariants as a
 use Rattle.object_operations.proofs.Lists.{set_same, set_set, remove_past, remove_last, take_whole}
 use Rattle.object_operations.proofs.Seeing.{first_belongs, map_held}

@@ -1,5 +1,5 @@
 -- What a value stands for, by the kind that was told.
-use Rattle.std.proofs.Common.{◌≡◌, ◌≢◌, ℕ, ◌≤◌, List, [], ◌∷◌, map, Option, Some, None, refl, sym, ap, ◌∙◌, subst, ◌⊎◌, inl, inr}
+use Rattle.std.proofs.Common.{◌≡◌, ◌≢◌, ℕ, List, [], ◌∷◌, map, Option, Some, None, refl, sym, ap, ◌∙◌, subst, ◌⊎◌, inl, inr}
 use Rattle.std.specs.Prelude.{slice_get}
 use Rattle.chan_values.specs.declared.error_code.ErrorCode.{ErrorCode}
 use Rattle.chan_values.specs.declared.error_code.ErrorCode.TheVariants.{E2, E4, E6}

@@ -1,7 +1,7 @@
 -- What it means that an operation was applied to values of a heap.
 use Rattle.std.specs.Prelude.{◌≡◌, ℕ, ◌+◌, ◌≤◌, List, [], ◌∷◌, ◌++◌, map, Some, slice_get, slice_set}
 use Rattle.heap_meaning.specs.Values.{Value, StoreValue, Reference, Entry}
-use Rattle.heap_meaning.specs.Store.{ArrayObject, MapObject, MessageObject, Store}
+use Rattle.heap_meaning.specs.Store.{ArrayObject, MapObject, Store}
 use Rattle.heap_meaning.specs.Cells.{occurrence, occurrences}
 use Rattle.heap_meaning.specs.Stands.{Naming, Outside, meaning, Stands, Agrees}
 use Rattle.heap_meaning.specs.Heap.{Heap}

@@ -1,5 +1,5 @@
 //! The name of a value's type, and objects made by name.
-ghost use Rattle.std.specs.Prelude.{◌≡◌, ◌≤◌, [], ◌∷◌, IfOk};
+ghost use Rattle.std.specs.Prelude.{◌≡◌, IfOk};
 ghost use Rattle.heap_meaning.specs.Heap.{content_at};
 ghost use Rattle.heap_meaning.specs.Reading.{plain_of, shape_in};
 ghost use Rattle.object_operations.specs.Applies.{Applies};

@@ -1,4 +1,4 @@
-use Rattle.std.proofs.Common.{rules, arith, ◌+◌, ◌^◌, ◌<◌, length}
+use Rattle.std.proofs.Common.{rules, arith, ◌+◌, ◌^◌, ◌<◌}
 use Rattle.heap_meaning.specs.Heap.{content_at}
 use Rattle.heap_meaning.specs.Reading.{length_in}
 use Rattle.object_operations.proofs.ArrayLaws.{handed}

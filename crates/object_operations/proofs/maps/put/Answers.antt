@@ -1,8 +1,8 @@
-use Rattle.std.proofs.Common.{rules, sym, ap, ◌≡◌, ◌∙◌, ◌⊎◌, inl, inr, Err}
+use Rattle.std.proofs.Common.{rules, ◌≡◌, inl, inr}
 use Rattle.chan_values.specs.Folded.{folded}
 use Rattle.heap_meaning.specs.Heap.{content_at}
 use Rattle.heap_meaning.specs.Reading.{IsFull}
-use Rattle.object_operations.proofs.MapLaws.{put_no_text, puts, put_full, full_or, moves_back, map_handed}
+use Rattle.object_operations.proofs.MapLaws.{puts, put_full, full_or, moves_back, map_handed}
 use Rattle.object_operations.proofs.maps.put.Goals as goal
 
 pub returns-in-Ok-clause-answer : goal.returns-in-Ok-clause-answer
