@@ -1,5 +1,5 @@
 -- The ways in which an operation answers.
-use Rattle.std.proofs.Common.{◌≡◌, ℕ, ◌+◌, Result, Ok, Err, IfOk, List, [], ◌∷◌, ◌++◌, length, refl, sym, ap, ◌∙◌, subst, arith}
+use Rattle.std.proofs.Common.{◌≡◌, ℕ, ◌+◌, Result, Ok, Err, IfOk, List, [], ◌∷◌, ◌++◌, length, refl, arith}
 use Rattle.heap_meaning.specs.declared.plain.Plain.{Plain}
 use Rattle.heap_meaning.specs.Values.{Value, Direct, StoreValue, Scalar, Words, Reference}
 use Rattle.heap_meaning.specs.Store.{Object, Store}

@@ -1,29 +1,27 @@
 -- What calls that write an array item by item do to that of the store.
-use Rattle.std.proofs.Common.{◌≡◌, ◌≢◌, ℕ, zero, suc, ◌+◌, ◌-◌, ◌^◌, ◌<◌, ◌≤◌, List, [], ◌∷◌, ◌++◌, map, length, take, Option, Some, None, refl, sym, ap, ◌∙◌, subst, arith, add-one, append_assoc, ◌⊎◌, inl, inr, Bool, true, false}
+use Rattle.std.proofs.Common.{◌≡◌, ◌≢◌, ℕ, suc, ◌+◌, ◌-◌, ◌^◌, ◌<◌, ◌≤◌, List, [], ◌∷◌, ◌++◌, map, length, take, Option, Some, None, refl, sym, ap, ◌∙◌, subst, arith, add-one, append_assoc, ◌⊎◌, inl, inr, Bool, true, false}
 use Rattle.std.specs.Prelude.{slice_get, slice_set, option_map, cond, nat_le, ℤ, pos, negsuc}
 use Rattle.std.specs.List.{insert, remove}
 use Rattle.std.proofs.lemmas.Grind.{common_steps}
 use Rattle.std.proofs.lemmas.List.Edits.{insert_end}
 use Rattle.std.proofs.lemmas.Option.{slice_get_within}
 use Rattle.chan_values.specs.declared.error_code.ErrorCode.TheVariants.{E2, E12}
-use Rattle.heap_meaning.specs.declared.plain.Plain.{Plain}
 use Rattle.heap_meaning.specs.declared.plain.Plain.TheVariants.{Invalid, Truth}
-use Rattle.heap_meaning.specs.Values.{Value, Direct, StoreValue, Scalar, Reference}
-use Rattle.heap_meaning.specs.Store.{Object, ArrayObject, MapObject, MessageObject, Store}
-use Rattle.heap_meaning.specs.Cells.{Content, Text, Array, Pairs, Message, occurrence, occurrences}
-use Rattle.heap_meaning.specs.Stands.{Naming, Outside, meaning, entry_meaning, Stands}
+use Rattle.heap_meaning.specs.Values.{Value, Direct, StoreValue, Reference}
+use Rattle.heap_meaning.specs.Store.{ArrayObject, Store}
+use Rattle.heap_meaning.specs.Cells.{Content, Array, occurrence}
+use Rattle.heap_meaning.specs.Stands.{Naming, Outside, meaning, Stands}
 use Rattle.heap_meaning.specs.Heap.{Heap, Belongs, Moves, InsertsItem, TakesItem, no_references, references_of, content_at}
 use Rattle.heap_meaning.specs.Framing.{Rewritten, ItemsChange}
 use Rattle.heap_meaning.specs.Reading.{item_in, length_in, plain_of, HoldsArray}
 use Rattle.heap_meaning.proofs.Counts.{same_or}
 use Rattle.heap_meaning.proofs.Writes.{get_front, get_set_same, get_set_other}
 use Rattle.heap_meaning.proofs.Showing.{Seen, sees_plain, sees_text, sees_array, sees_pairs, sees_message, sees}
-use Rattle.object_operations.specs.Answer.{Answer, Gives, Raises, invalid, truth, with_items, number_of_plain, number_in, items_of, items_of_object}
+use Rattle.object_operations.specs.Answer.{Answer, Raises, number_in, items_of, items_of_object}
 use Rattle.object_operations.specs.Arrays.{removed, deleted, appended, item_list, method_of_array}
 use Rattle.std.specs.Option.{is_some}
 use Rattle.object_operations.specs.Numbers.{number_of, place_at}
-use Rattle.object_operations.specs.Receivers.{ArrayRow}
-use Rattle.object_operations.specs.Applies.{Gave, Answers, AreOut, AppliesToArray, ArrayBecomes, Appends}
+use Rattle.object_operations.specs.Applies.{Answers, AppliesToArray, ArrayBecomes, Appends}
 use Rattle.object_operations.specs.declared.array_method.ArrayMethod.TheVariants.{Delete, Clear, Append}
 use Rattle.object_operations.specs.declared.applied.Applied.TheVariants as a
 use Rattle.object_operations.proofs.Lists.{set_same, set_set, remove_past, remove_last, take_whole, take_more, append_none}
@@ -47,17 +45,21 @@ module _ (name : Naming) (new : Heap) (store : Store) (before : Outside) (n : �
 
 -- no item stands at the place
 pub drops_none : (h : Heap) (array : Value) (i : ℕ) → item_in (content_at h array) i ≡ None → ArrayBecomes h h array (λ items. remove items i)
-drops_none h array i e = record { stands = λ name store before n items s o names row.
-    let held = array_held h name store before array n items s (first_belongs h name store before array [] s o) names row in
-    let f : slice_get items i ≡ None = held_item h name array items i held ∙ ap (option_map (meaning name)) e in
-    stands_unchanged name h store before n items row (remove items i) (remove_past items i f) s }
+drops_none h array i e = record {
+  stands = λ name store before n items s o names row.
+      let held = array_held h name store before array n items s (first_belongs h name store before array [] s o) names row in
+      let f : slice_get items i ≡ None = held_item h name array items i held ∙ ap (option_map (meaning name)) e in
+      stands_unchanged name h store before n items row (remove items i) (remove_past items i f) s;
+}
 
 -- an item is taken out and released
 pub drops_item : (h h1 h2 : Heap) (array item : Value) (i : ℕ) → TakesItem h h1 array i item → Moves h1 h2 (references_of item) no_references → ArrayBecomes h h2 array (λ items. remove items i)
-drops_item h h1 h2 array item i takes moves = record { stands = λ name store before n items s o names row.
-    let mid : Outside = λ k. before k + occurrence k item in
-    let t = takes name store before mid n items s (first_belongs h name store before array [] s o) names row (λ k. omega arith) in
-    moves name _ mid before t (λ k. omega arith) }
+drops_item h h1 h2 array item i takes moves = record {
+  stands = λ name store before n items s o names row.
+      let mid : Outside = λ k. before k + occurrence k item in
+      let t = takes name store before mid n items s (first_belongs h name store before array [] s o) names row (λ k. omega arith) in
+      moves name _ mid before t (λ k. omega arith);
+}
 
 pub becomes_unmoved : {h h1 h2 : Heap} {array : Value} {change : List StoreValue → List StoreValue} → h2 ≡ h1 → ArrayBecomes h h1 array change → ArrayBecomes h h2 array change
 becomes_unmoved {h = h} {array = array} {change = change} e x = subst (λ (y : Heap). ArrayBecomes h y array change) (sym e) x
@@ -74,9 +76,11 @@ number_seen h name store before v s b = go v (meaning name v) (content_at h v) (
     go _ _ _ (sees_message g) = refl
 
 pub deletes_no_number : (h : Heap) (array i : Value) → number_of (plain_of i) ≡ None → AppliesToArray h h array (i ∷ []) (a.Raised E2) (method_of_array Delete)
-deletes_no_number h array i e = record { answers = λ name store before n items s o names row.
-    let f = number_seen h name store before i s (second_belongs h name store before array i [] s o) ∙ e in
-    subst (λ x. Answers name h before (a.Raised E2) (deleted n items x store)) (sym f) refl }
+deletes_no_number h array i e = record {
+  answers = λ name store before n items s o names row.
+      let f = number_seen h name store before i s (second_belongs h name store before array i [] s o) ∙ e in
+      subst (λ x. Answers name h before (a.Raised E2) (deleted n items x store)) (sym f) refl;
+}
 
 pub below : (n : ℤ) → place_at n ≡ None → (i : ℕ) × (n ≡ negsuc i)
 below (pos i) e = absurd cc
@@ -87,20 +91,24 @@ within (pos j) i e = cc
 within (negsuc j) i e = absurd cc
 
 pub deletes_below : (h : Heap) (array i : Value) (j : ℤ) → number_of (plain_of i) ≡ Some j → place_at j ≡ None → AppliesToArray h h array (i ∷ []) (a.Value (Direct (Truth false))) (method_of_array Delete)
-deletes_below h array i j e none = record { answers = λ name store before n items s o names row.
-    let z = below j none in
-    let f = number_seen h name store before i s (second_belongs h name store before array i [] s o) ∙ e ∙ ap Some z.1 in
-    subst (λ x. Answers name h before (a.Value (Direct (Truth false))) (deleted n items x store)) (sym f) (gave_plain name h store before (Truth false) s) }
+deletes_below h array i j e none = record {
+  answers = λ name store before n items s o names row.
+      let z = below j none in
+      let f = number_seen h name store before i s (second_belongs h name store before array i [] s o) ∙ e ∙ ap Some z.1 in
+      subst (λ x. Answers name h before (a.Value (Direct (Truth false))) (deleted n items x store)) (sym f) (gave_plain name h store before (Truth false) s);
+}
 
 pub deletes_at : (h h1 : Heap) (array i : Value) (j : ℤ) (at : ℕ) (there : Bool) → number_of (plain_of i) ≡ Some j → place_at j ≡ Some at → there ≡ is_some (item_in (content_at h array) at)
     → ArrayBecomes h h1 array (λ items. remove items at) → AppliesToArray h h1 array (i ∷ []) (a.Value (Direct (Truth there))) (method_of_array Delete)
-deletes_at h h1 array i j at there e some is becomes = record { answers = λ name store before n items s o names row.
-    let b = first_belongs h name store before array (i ∷ []) s o in
-    let f : number_in (meaning name i) ≡ Some (pos at) = number_seen h name store before i s (second_belongs h name store before array i [] s o) ∙ e ∙ ap Some (within j at some) in
-    let g = held_item h name array items at (array_held h name store before array n items s b names row) in
-    let t = becomes.stands name store before n items s (λ k. let x = o k in omega arith) names row in
-    subst (λ x. Answers name h1 before (a.Value (Direct (Truth there))) (deleted n items x store)) (sym f)
-    (go name store before n items row t (slice_get items at) (item_in (content_at h array) at) refl g is) }
+deletes_at h h1 array i j at there e some is becomes = record {
+  answers = λ name store before n items s o names row.
+      let b = first_belongs h name store before array (i ∷ []) s o in
+      let f : number_in (meaning name i) ≡ Some (pos at) = number_seen h name store before i s (second_belongs h name store before array i [] s o) ∙ e ∙ ap Some (within j at some) in
+      let g = held_item h name array items at (array_held h name store before array n items s b names row) in
+      let t = becomes.stands name store before n items s (λ k. let x = o k in omega arith) names row in
+      subst (λ x. Answers name h1 before (a.Value (Direct (Truth there))) (deleted n items x store)) (sym f)
+      (go name store before n items row t (slice_get items at) (item_in (content_at h array) at) refl g is);
+}
   where
     go : (name : Naming) (store : Store) (before : Outside) (n : ℕ) (items : List StoreValue) → slice_get store n ≡ Some (ArrayObject items) → Stands name h1.cells (slice_set store n (ArrayObject (remove items at))) before
         → (x : Option StoreValue) (y : Option Value) → slice_get items at ≡ x → x ≡ option_map (meaning name) y → there ≡ is_some y → Answers name h1 before (a.Value (Direct (Truth there))) (removed n items at x store)
@@ -111,19 +119,25 @@ deletes_at h h1 array i j at there e some is becomes = record { answers = λ nam
 
 -- clearing, from the last item down
 pub clear_start : (h : Heap) (array : Value) (k : ℕ) → k ≡ length_in (content_at h array) → ArrayBecomes h h array (take k)
-clear_start h array k e = record { stands = λ name store before n items s o names row.
-    let f = held_length h name array items (array_held h name store before array n items s (first_belongs h name store before array [] s o) names row) in
-    stands_unchanged name h store before n items row (take k items) (ap (λ j. take j items) (e ∙ f) ∙ take_whole items) s }
+clear_start h array k e = record {
+  stands = λ name store before n items s o names row.
+      let f = held_length h name array items (array_held h name store before array n items s (first_belongs h name store before array [] s o) names row) in
+      stands_unchanged name h store before n items row (take k items) (ap (λ j. take j items) (e ∙ f) ∙ take_whole items) s;
+}
 
 pub clear_step : (h h1 h2 : Heap) (array : Value) (left k : ℕ) → left ≡ suc k → ArrayBecomes h h1 array (take left) → ArrayBecomes h1 h2 array (λ items. remove items k) → ArrayBecomes h h2 array (take k)
-clear_step h h1 h2 array left k e x y = record { stands = λ name store before n items s o names row.
-    let t = subst (λ j. Stands name h1.cells (slice_set store n (ArrayObject (take j items))) before) e (x.stands name store before n items s o names row) in
-    let u = y.stands name _ before n (take (suc k) items) t o names (row_set name h store before n items row (take (suc k) items)) in
-    stands_again name h2 store before n items row (take (suc k) items) (remove (take (suc k) items) k) (take k items) (remove_last items k) u }
+clear_step h h1 h2 array left k e x y = record {
+  stands = λ name store before n items s o names row.
+      let t = subst (λ j. Stands name h1.cells (slice_set store n (ArrayObject (take j items))) before) e (x.stands name store before n items s o names row) in
+      let u = y.stands name _ before n (take (suc k) items) t o names (row_set name h store before n items row (take (suc k) items)) in
+      stands_again name h2 store before n items row (take (suc k) items) (remove (take (suc k) items) k) (take k items) (remove_last items k) u;
+}
 
 pub clears : (h h1 : Heap) (array : Value) (left : ℕ) → left ≡ 0 → ArrayBecomes h h1 array (take left) → AppliesToArray h h1 array [] (a.Value (Direct Invalid)) (method_of_array Clear)
-clears h h1 array left e x = record { answers = λ name store before n items s o names row.
-    gave_plain name h1 _ before Invalid (subst (λ j. Stands name h1.cells (slice_set store n (ArrayObject (take j items))) before) e (x.stands name store before n items s o names row)) }
+clears h h1 array left e x = record {
+  answers = λ name store before n items s o names row.
+      gave_plain name h1 _ before Invalid (subst (λ j. Stands name h1.cells (slice_set store n (ArrayObject (take j items))) before) e (x.stands name store before n items s o names row));
+}
 
 -- the array for which an array of the heap stands
 pub record ArrayShown (name : Naming) (store : Store) (v : Value) : Type 0 where
@@ -153,9 +167,11 @@ no_array h name store before v s b other = go v (meaning name v) (content_at h v
     go _ _ _ (sees_message g) x = ap items_of_object g
 
 pub appends_no_array : (h : Heap) (array from : Value) → (HoldsArray (content_at h from) → ⊥) → AppliesToArray h h array (from ∷ []) (a.Raised E2) (method_of_array Append)
-appends_no_array h array from other = record { answers = λ name store before n items s o names row.
-    let f = no_array h name store before from s (second_belongs h name store before array from [] s o) other in
-    subst (λ x. Answers name h before (a.Raised E2) (appended n items x store)) (sym f) refl }
+appends_no_array h array from other = record {
+  answers = λ name store before n items s o names row.
+      let f = no_array h name store before from s (second_belongs h name store before array from [] s o) other in
+      subst (λ x. Answers name h before (a.Raised E2) (appended n items x store)) (sym f) refl;
+}
 
 too_long : (m : ℕ) (x : Answer) → 2 ^ 20 < m → cond (nat_le m (2 ^ 20)) x (Raises E12) ≡ Raises E12
 too_long m x l = grind (arith, common_steps)
@@ -164,28 +180,32 @@ long_enough : (m : ℕ) (x : Answer) → m ≤ 2 ^ 20 → cond (nat_le m (2 ^ 20
 long_enough m x l = grind (arith, common_steps)
 
 pub appends_too_long : (h : Heap) (array from : Value) → HoldsArray (content_at h from) → 2 ^ 20 < length_in (content_at h array) + length_in (content_at h from) → AppliesToArray h h array (from ∷ []) (a.Raised E12) (method_of_array Append)
-appends_too_long h array from holds long = record { answers = λ name store before n items s o names row.
-    let b = second_belongs h name store before array from [] s o in
-    let x = array_shown h name store before from s b holds in
-    let p = held_length h name array items (array_held h name store before array n items s (first_belongs h name store before array (from ∷ []) s o) names row) in
-    let q = held_length h name from x.items (array_held h name store before from x.object x.items s b x.names x.there) in
-    let f : items_of (meaning name from) store ≡ Some x.items = ap (λ w. items_of w store) x.names ∙ ap items_of_object x.there in
-    subst (λ y. Answers name h before (a.Raised E12) (appended n items y store)) (sym f) (subst (Answers name h before (a.Raised E12)) (sym (too_long (length items + length x.items) _ (omega arith))) refl) }
+appends_too_long h array from holds long = record {
+  answers = λ name store before n items s o names row.
+      let b = second_belongs h name store before array from [] s o in
+      let x = array_shown h name store before from s b holds in
+      let p = held_length h name array items (array_held h name store before array n items s (first_belongs h name store before array (from ∷ []) s o) names row) in
+      let q = held_length h name from x.items (array_held h name store before from x.object x.items s b x.names x.there) in
+      let f : items_of (meaning name from) store ≡ Some x.items = ap (λ w. items_of w store) x.names ∙ ap items_of_object x.there in
+      subst (λ y. Answers name h before (a.Raised E12) (appended n items y store)) (sym f) (subst (Answers name h before (a.Raised E12)) (sym (too_long (length items + length x.items) _ (omega arith))) refl);
+}
 
 pub append_start : (h : Heap) (array from : Value) → Appends h h array from (take 0)
 append_start h array from = record { stands = λ name store before n m items more s o names row names' row'. stands_unchanged name h store before n items row (items ++ []) (append_none items) s }
 
 -- one item more of the other array, which may be the array itself
 pub append_step : (h h1 h2 : Heap) (array from : Value) (k : ℕ) → k < length_in (content_at h from) → Appends h h1 array from (take k) → Appends h1 h2 array from (λ more. item_list (slice_get more k)) → Appends h h2 array from (take (k + 1))
-append_step h h1 h2 array from k l x y = subst (λ j. Appends h h2 array from (take j)) (sym (add-one k)) (record { stands = λ name store before n m items more s o names row names' row'.
-    let q = held_length h name from more (array_held h name store before from m more s (second_belongs h name store before array from [] s o) names' row') in
-    let t = x.stands name store before n m items more s o names row names' row' in
-    let longer = items ++ take k more in
-    let r = row_set name h store before n items row longer in
-    let z = other_row store n m items more longer row row' (omega arith) (get_front items (take k more) k) (same_or m n) in
-    let u = y.stands name _ before n m longer z.0 t o names r names' z.1 in
-    stands_again name h2 store before n items row longer (longer ++ item_list (slice_get z.0 k)) (items ++ take (suc k) more)
-    (ap (λ g. longer ++ item_list g) z.2 ∙ append_assoc items (take k more) (item_list (slice_get more k)) ∙ ap (λ g. items ++ g) (sym (take_more more k))) u })
+append_step h h1 h2 array from k l x y = subst (λ j. Appends h h2 array from (take j)) (sym (add-one k)) (record {
+  stands = λ name store before n m items more s o names row names' row'.
+      let q = held_length h name from more (array_held h name store before from m more s (second_belongs h name store before array from [] s o) names' row') in
+      let t = x.stands name store before n m items more s o names row names' row' in
+      let longer = items ++ take k more in
+      let r = row_set name h store before n items row longer in
+      let z = other_row store n m items more longer row row' (omega arith) (get_front items (take k more) k) (same_or m n) in
+      let u = y.stands name _ before n m longer z.0 t o names r names' z.1 in
+      stands_again name h2 store before n items row longer (longer ++ item_list (slice_get z.0 k)) (items ++ take (suc k) more)
+      (ap (λ g. longer ++ item_list g) z.2 ∙ append_assoc items (take k more) (item_list (slice_get more k)) ∙ ap (λ g. items ++ g) (sym (take_more more k))) u;
+})
   where
     other_row : (store : Store) (n m : ℕ) (items more longer : List StoreValue) → slice_get store n ≡ Some (ArrayObject items) → slice_get store m ≡ Some (ArrayObject more) → k < length more
         → (k < length items → slice_get longer k ≡ slice_get items k) → (m ≡ n) ⊎ (m ≢ n)
@@ -197,35 +217,41 @@ append_step h h1 h2 array from k l x y = subst (λ j. Appends h h2 array from (t
 
 pub appends : (h h1 : Heap) (array from : Value) (k : ℕ) → HoldsArray (content_at h from) → k ≡ length_in (content_at h from) → length_in (content_at h array) + k ≤ 2 ^ 20 → Appends h h1 array from (take k)
     → AppliesToArray h h1 array (from ∷ []) (a.Value (Direct Invalid)) (method_of_array Append)
-appends h h1 array from k holds e room y = record { answers = λ name store before n items s o names row.
-    let b = second_belongs h name store before array from [] s o in
-    let x = array_shown h name store before from s b holds in
-    let p = held_length h name array items (array_held h name store before array n items s (first_belongs h name store before array (from ∷ []) s o) names row) in
-    let q = held_length h name from x.items (array_held h name store before from x.object x.items s b x.names x.there) in
-    let f : items_of (meaning name from) store ≡ Some x.items = ap (λ w. items_of w store) x.names ∙ ap items_of_object x.there in
-    let t = y.stands name store before n x.object items x.items s o names row x.names x.there in
-    let u = subst (λ l. Stands name h1.cells (slice_set store n (ArrayObject (items ++ l))) before) (ap (λ j. take j x.items) (e ∙ q) ∙ take_whole x.items) t in
-    subst (λ y. Answers name h1 before (a.Value (Direct Invalid)) (appended n items y store)) (sym f)
-    (subst (Answers name h1 before (a.Value (Direct Invalid))) (sym (long_enough (length items + length x.items) _ (omega arith))) (gave_plain name h1 _ before Invalid u)) }
+appends h h1 array from k holds e room y = record {
+  answers = λ name store before n items s o names row.
+      let b = second_belongs h name store before array from [] s o in
+      let x = array_shown h name store before from s b holds in
+      let p = held_length h name array items (array_held h name store before array n items s (first_belongs h name store before array (from ∷ []) s o) names row) in
+      let q = held_length h name from x.items (array_held h name store before from x.object x.items s b x.names x.there) in
+      let f : items_of (meaning name from) store ≡ Some x.items = ap (λ w. items_of w store) x.names ∙ ap items_of_object x.there in
+      let t = y.stands name store before n x.object items x.items s o names row x.names x.there in
+      let u = subst (λ l. Stands name h1.cells (slice_set store n (ArrayObject (items ++ l))) before) (ap (λ j. take j x.items) (e ∙ q) ∙ take_whole x.items) t in
+      subst (λ y. Answers name h1 before (a.Value (Direct Invalid)) (appended n items y store)) (sym f)
+      (subst (Answers name h1 before (a.Value (Direct Invalid))) (sym (long_enough (length items + length x.items) _ (omega arith))) (gave_plain name h1 _ before Invalid u));
+}
 
 -- no item is there to be put at the end
 pub append_item_none : (h h1 : Heap) (array from : Value) (k : ℕ) → item_in (content_at h from) k ≡ None → h1 ≡ h → Appends h h1 array from (λ more. item_list (slice_get more k))
-append_item_none h h1 array from k none e = record { stands = λ name store before n m items more s o names row names' row'.
-    let f : slice_get more k ≡ None = held_item h name from more k (array_held h name store before from m more s (second_belongs h name store before array from [] s o) names' row') ∙ ap (option_map (meaning name)) none in
-    stands_unchanged name h1 store before n items row (items ++ item_list (slice_get more k)) (ap (λ g. items ++ item_list g) f ∙ append_none items) (subst (λ (y : Heap). Stands name y.cells store before) (sym e) s) }
+append_item_none h h1 array from k none e = record {
+  stands = λ name store before n m items more s o names row names' row'.
+      let f : slice_get more k ≡ None = held_item h name from more k (array_held h name store before from m more s (second_belongs h name store before array from [] s o) names' row') ∙ ap (option_map (meaning name)) none in
+      stands_unchanged name h1 store before n items row (items ++ item_list (slice_get more k)) (ap (λ g. items ++ item_list g) f ∙ append_none items) (subst (λ (y : Heap). Stands name y.cells store before) (sym e) s);
+}
 
 -- an item is shared and put at the end
 pub append_item_some : (h h1 h2 : Heap) (array from item : Value) (k end : ℕ) → item_in (content_at h from) k ≡ Some item → Moves h h1 no_references (references_of item) → end ≡ length_in (content_at h1 array) → InsertsItem h1 h2 array end item
     → Appends h h2 array from (λ more. item_list (slice_get more k))
-append_item_some h h1 h2 array from item k end some moves e puts = record { stands = λ name store before n m items more s o names row names' row'.
-    let f : slice_get more k ≡ Some (meaning name item) = held_item h name from more k (array_held h name store before from m more s (second_belongs h name store before array from [] s o) names' row') ∙ ap (option_map (meaning name)) some in
-    let mid : Outside = λ k. occurrence k item + before k in
-    let t = moves name store before mid s (λ k. omega arith) in
-    let b1 = first_belongs h1 name store mid array [] t (λ k. let x = o k in omega arith) in
-    let l = held_length h1 name array items (array_held h1 name store mid array n items t b1 names row) in
-    let u = puts name store mid before n items t b1 names row (λ k. omega arith) in
-    let g : insert items end (meaning name item) ≡ items ++ item_list (slice_get more k) = ap (λ j. insert items j (meaning name item)) (e ∙ l) ∙ insert_end items (meaning name item) ∙ ap (λ x. items ++ item_list x) (sym f) in
-    subst (λ x. Stands name h2.cells (slice_set store n (ArrayObject x)) before) g u }
+append_item_some h h1 h2 array from item k end some moves e puts = record {
+  stands = λ name store before n m items more s o names row names' row'.
+      let f : slice_get more k ≡ Some (meaning name item) = held_item h name from more k (array_held h name store before from m more s (second_belongs h name store before array from [] s o) names' row') ∙ ap (option_map (meaning name)) some in
+      let mid : Outside = λ k. occurrence k item + before k in
+      let t = moves name store before mid s (λ k. omega arith) in
+      let b1 = first_belongs h1 name store mid array [] t (λ k. let x = o k in omega arith) in
+      let l = held_length h1 name array items (array_held h1 name store mid array n items t b1 names row) in
+      let u = puts name store mid before n items t b1 names row (λ k. omega arith) in
+      let g : insert items end (meaning name item) ≡ items ++ item_list (slice_get more k) = ap (λ j. insert items j (meaning name item)) (e ∙ l) ∙ insert_end items (meaning name item) ∙ ap (λ x. items ++ item_list x) (sym f) in
+      subst (λ x. Stands name h2.cells (slice_set store n (ArrayObject x)) before) g u;
+}
 
 -- the cell of a value whose items were rewritten holds an array
 pub still_array : (old new : Heap) (v : Value) (change : List Value → List Value) → Rewritten old new v (ItemsChange change) → HoldsArray (content_at new v)

@@ -1,22 +1,22 @@
 -- Entries of associative arrays, one by one.
-use Rattle.std.proofs.Common.{◌≡◌, ℕ, zero, suc, ◌+◌, ◌<◌, ◌≤◌, List, [], ◌∷◌, ◌++◌, map, length, take, Option, Some, None, refl, sym, ap, ◌∙◌, subst, arith, Bool, true, false, cond, ◌⊎◌, inl, inr}
+use Rattle.std.proofs.Common.{◌≡◌, ℕ, zero, suc, List, [], ◌∷◌, map, length, Option, Some, None, refl, sym, ap, ◌∙◌, subst, Bool, true, false, cond}
 use Rattle.std.specs.Prelude.{slice_get, slice_set, option_map}
 use Rattle.std.specs.Str.{bytes_eq}
 use Rattle.std.specs.List.{remove, AllByRecursion}
 use Rattle.chan_values.specs.Folded.{folded}
 use Rattle.chan_values.specs.Portable.{IsKeyList}
-use Rattle.heap_meaning.specs.Values.{Value, StoreValue, Reference, Entry}
+use Rattle.heap_meaning.specs.Values.{Value, StoreValue, Entry}
 use Rattle.heap_meaning.specs.Keys.{keys_of, value_at_key, with_key, without_key}
-use Rattle.heap_meaning.specs.Cells.{Content, Text, Array, Pairs, Message, HeldCell, cell_at}
+use Rattle.heap_meaning.specs.Cells.{Content}
 use Rattle.heap_meaning.specs.Stands.{Naming, Outside, meaning, entry_meaning, Stands}
 use Rattle.heap_meaning.specs.Store.{Store}
 use Rattle.heap_meaning.specs.Heap.{Heap, Belongs, content_at}
-use Rattle.heap_meaning.specs.Reading.{item_in, length_in, value_in, keys_in, text_in, plain_of}
+use Rattle.heap_meaning.specs.Reading.{length_in, value_in, keys_in, text_in}
 use Rattle.heap_meaning.proofs.Lists.{map_length}
 use Rattle.heap_meaning.proofs.Searching.{value_there, without_key_there, with_key_there}
 use Rattle.heap_meaning.proofs.Showing.{Seen, sees_plain, sees_text, sees_array, sees_pairs, sees_message, sees}
 use Rattle.object_operations.specs.Answer.{text_of}
-use Rattle.object_operations.proofs.Seeing.{MapHeld, get_map}
+use Rattle.object_operations.proofs.Seeing.{MapHeld}
 
 pub value_map : (name : Naming) (es : List (Entry Value)) (key : List ℕ) → value_at_key (map (entry_meaning name) es) key ≡ option_map (meaning name) (value_at_key es key)
 value_map name [] key = refl

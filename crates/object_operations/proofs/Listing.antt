@@ -1,5 +1,5 @@
 -- Lists of two and three arguments, item by item.
-use Rattle.std.proofs.Common.{◌≡◌, ℕ, ◌<◌, ◌≤◌, List, [], ◌∷◌, length, take, drop, ◌-◌, refl, sym, ap, ◌∙◌, arith, get_or}
+use Rattle.std.proofs.Common.{◌≡◌, ◌<◌, ◌≤◌, List, [], ◌∷◌, length, take, drop, ◌-◌, sym, ap, ◌∙◌, arith, get_or}
 use Rattle.object_operations.proofs.Lists.{take_whole}
 
 pub two : {A : Type 0} (vs : List A) (x k : A) → 2 ≤ length vs → length vs < 3 → x ≡ get_or vs 0 x → k ≡ get_or vs 1 k → vs ≡ x ∷ k ∷ []

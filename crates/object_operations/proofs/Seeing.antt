@@ -1,12 +1,12 @@
 -- What the heap shows of the arrays and associative arrays of the store.
-use Rattle.std.proofs.Common.{◌≡◌, ℕ, zero, suc, ◌+◌, ◌<◌, ◌≤◌, List, [], ◌∷◌, map, length, Option, Some, None, refl, sym, ap, ◌∙◌, subst, arith}
+use Rattle.std.proofs.Common.{◌≡◌, ℕ, zero, suc, List, [], ◌∷◌, map, length, Option, Some, refl, sym, ap, ◌∙◌, subst, arith}
 use Rattle.std.specs.Prelude.{slice_get, option_map}
 use Rattle.heap_meaning.specs.Values.{Value, StoreValue, Reference, Entry}
 use Rattle.heap_meaning.specs.Store.{ArrayObject, MapObject, MessageObject, Store}
-use Rattle.heap_meaning.specs.Cells.{Content, Array, Pairs, occurrence, occurrences}
+use Rattle.heap_meaning.specs.Cells.{Content, Array, Pairs}
 use Rattle.heap_meaning.specs.Stands.{Naming, Outside, meaning, entry_meaning, Stands}
 use Rattle.heap_meaning.specs.Heap.{Heap, Belongs, content_at}
-use Rattle.heap_meaning.specs.Reading.{item_in, length_in, value_in, entries_in}
+use Rattle.heap_meaning.specs.Reading.{item_in, length_in}
 use Rattle.heap_meaning.proofs.Lists.{map_length}
 use Rattle.heap_meaning.proofs.Showing.{Seen, sees_plain, sees_text, sees_array, sees_pairs, sees_message, sees, out_belongs}
 use Rattle.object_operations.specs.Applies.{AreOut}

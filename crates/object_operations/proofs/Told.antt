@@ -1,5 +1,5 @@
 -- What a value stands for, by the kind that was told.
-use Rattle.std.proofs.Common.{◌≡◌, ◌≢◌, ℕ, ◌≤◌, List, [], ◌∷◌, map, Option, Some, None, refl, sym, ap, ◌∙◌, subst, ◌⊎◌, inl, inr}
+use Rattle.std.proofs.Common.{◌≡◌, ◌≢◌, ℕ, List, [], ◌∷◌, map, Option, Some, None, refl, sym, ap, ◌∙◌, subst, ◌⊎◌, inl, inr}
 use Rattle.std.specs.Prelude.{slice_get}
 use Rattle.chan_values.specs.declared.error_code.ErrorCode.{ErrorCode}
 use Rattle.chan_values.specs.declared.error_code.ErrorCode.TheVariants.{E2, E4, E6}
@@ -66,17 +66,21 @@ plain_error p.Screen other = refl
 -- another kind is refused
 pub refused : (h : Heap) (x : Value) (arguments : List Value) (row : List StoreValue → Store → Answer) (kind : Receiver) (error : ErrorCode) → kind ≡ receiver_in (plain_of x) (content_at h x)
     → ((name : Naming) (store : Store) (w : StoreValue) → KindOf store kind w → row (w ∷ map (meaning name) arguments) store ≡ Raises error) → Applies h h (x ∷ arguments) (a.Raised error) row
-refused h x arguments row kind error e same = record { answers = λ name store before s o.
-    let k = subst (λ y. KindOf store y (meaning name x)) (sym e) (kind_seen h name store before x s (first_belongs h name store before x arguments s o)) in
-    subst (Answers name h before (a.Raised error)) (sym (same name store (meaning name x) k)) refl }
+refused h x arguments row kind error e same = record {
+  answers = λ name store before s o.
+      let k = subst (λ y. KindOf store y (meaning name x)) (sym e) (kind_seen h name store before x s (first_belongs h name store before x arguments s o)) in
+      subst (Answers name h before (a.Raised error)) (sym (same name store (meaning name x) k)) refl;
+}
 
 -- what is decided for an array
 pub on_an_array_with : (h h1 : Heap) (x : Value) (arguments : List Value) (result : Applied) (method : ArrayRow) (row : List StoreValue → Store → Answer) → r.Array ≡ receiver_in (plain_of x) (content_at h x)
     → ((name : Naming) (n : ℕ) (items : List StoreValue) (store : Store) → slice_get store n ≡ Some (ArrayObject items) → row (Reference n ∷ map (meaning name) arguments) store ≡ method n items (map (meaning name) arguments) store)
     → AppliesToArray h h1 x arguments result method → Applies h h1 (x ∷ arguments) result row
-on_an_array_with h h1 x arguments result method row e same given = record { answers = λ name store before s o.
-    let k = subst (λ y. KindOf store y (meaning name x)) (sym e) (kind_seen h name store before x s (first_belongs h name store before x arguments s o)) in
-    go name store before s o (meaning name x) refl r.Array refl k }
+on_an_array_with h h1 x arguments result method row e same given = record {
+  answers = λ name store before s o.
+      let k = subst (λ y. KindOf store y (meaning name x)) (sym e) (kind_seen h name store before x s (first_belongs h name store before x arguments s o)) in
+      go name store before s o (meaning name x) refl r.Array refl k;
+}
   where
     go : (name : Naming) (store : Store) (before : Outside) → Stands name h.cells store before → AreOut (x ∷ arguments) before → (w : StoreValue) → meaning name x ≡ w → (kind : Receiver) → kind ≡ r.Array → KindOf store kind w → Answers name h1 before result (row (w ∷ map (meaning name) arguments) store)
     go name store before s o _ f _ q (of_array n items there) = subst (Answers name h1 before result) (sym (same name n items store there)) (given.answers name store before n items s o f there)
@@ -89,9 +93,11 @@ on_an_array_with h h1 x arguments result method row e same given = record { answ
 pub on_a_map_with : (h h1 : Heap) (x : Value) (arguments : List Value) (result : Applied) (method : MapRow) (row : List StoreValue → Store → Answer) → r.Pairs ≡ receiver_in (plain_of x) (content_at h x)
     → ((name : Naming) (n : ℕ) (entries : List (Entry StoreValue)) (store : Store) → slice_get store n ≡ Some (MapObject entries) → row (Reference n ∷ map (meaning name) arguments) store ≡ method n entries (map (meaning name) arguments) store)
     → AppliesToMap h h1 x arguments result method → Applies h h1 (x ∷ arguments) result row
-on_a_map_with h h1 x arguments result method row e same given = record { answers = λ name store before s o.
-    let k = subst (λ y. KindOf store y (meaning name x)) (sym e) (kind_seen h name store before x s (first_belongs h name store before x arguments s o)) in
-    go name store before s o (meaning name x) refl r.Pairs refl k }
+on_a_map_with h h1 x arguments result method row e same given = record {
+  answers = λ name store before s o.
+      let k = subst (λ y. KindOf store y (meaning name x)) (sym e) (kind_seen h name store before x s (first_belongs h name store before x arguments s o)) in
+      go name store before s o (meaning name x) refl r.Pairs refl k;
+}
   where
     go : (name : Naming) (store : Store) (before : Outside) → Stands name h.cells store before → AreOut (x ∷ arguments) before → (w : StoreValue) → meaning name x ≡ w → (kind : Receiver) → kind ≡ r.Pairs → KindOf store kind w → Answers name h1 before result (row (w ∷ map (meaning name) arguments) store)
     go name store before s o _ f _ q (of_pairs n entries there) = subst (Answers name h1 before result) (sym (same name n entries store there)) (given.answers name store before n entries s o f there)

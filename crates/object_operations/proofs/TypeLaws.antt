@@ -25,6 +25,8 @@ type_seen h name store before v s b = go v (meaning name v) (content_at h v) (se
     go _ _ _ (sees_message g) = ap object_type g
 
 pub names_type : (h h1 : Heap) (v result : Value) (bytes : List ℕ) → bytes ≡ type_in (plain_of v) (shape_in (content_at h v)) → MakesText h h1 result bytes → Applies h h1 (v ∷ []) (a.Value result) type_row
-names_type h h1 v result bytes e makes = record { answers = λ name store before s o.
-    let f = type_seen h name store before v s (first_belongs h name store before v [] s o) in
-    subst (λ t. Answers name h1 before (a.Value result) (Gives (Words t) store)) (e ∙ sym f) (gave_text name h h1 store before result bytes s makes) }
+names_type h h1 v result bytes e makes = record {
+  answers = λ name store before s o.
+      let f = type_seen h name store before v s (first_belongs h name store before v [] s o) in
+      subst (λ t. Answers name h1 before (a.Value result) (Gives (Words t) store)) (e ∙ sym f) (gave_text name h h1 store before result bytes s makes);
+}

@@ -1,5 +1,5 @@
 -- What an operation gives in the meaning, and how operations read their arguments.
-use Rattle.std.specs.Prelude.{ℕ, ℤ, pos, negsuc, Bool, ◌^◌, ◌-◌, List, length, Option, Some, None, slice_get, slice_set, cond, nat_lt, min}
+use Rattle.std.specs.Prelude.{ℕ, ℤ, pos, negsuc, Bool, ◌^◌, ◌-◌, List, Option, Some, None, slice_get, slice_set, cond, nat_lt, min}
 use Rattle.chan_values.specs.declared.error_code.ErrorCode.{ErrorCode}
 use Rattle.chan_values.specs.declared.error_code.ErrorCode.TheVariants.{E12}
 use Rattle.heap_meaning.specs.declared.plain.Plain.{Plain}

@@ -1,7 +1,7 @@
 -- What it means that an operation was applied to values of a heap.
 use Rattle.std.specs.Prelude.{◌≡◌, ℕ, ◌+◌, ◌≤◌, List, [], ◌∷◌, ◌++◌, map, Some, slice_get, slice_set}
 use Rattle.heap_meaning.specs.Values.{Value, StoreValue, Reference, Entry}
-use Rattle.heap_meaning.specs.Store.{ArrayObject, MapObject, MessageObject, Store}
+use Rattle.heap_meaning.specs.Store.{ArrayObject, MapObject, Store}
 use Rattle.heap_meaning.specs.Cells.{occurrence, occurrences}
 use Rattle.heap_meaning.specs.Stands.{Naming, Outside, meaning, Stands, Agrees}
 use Rattle.heap_meaning.specs.Heap.{Heap}
@@ -31,40 +31,40 @@ AreOut values before = (k : ℕ) → occurrences k values ≤ before k
 -- whatever the store that the heap stands for, the answer is that of the row; the arguments stay out
 pub record Applies (old new : Heap) (arguments : List Value) (r : Applied) (row : List StoreValue → Store → Answer) : Type 0 where
   pub answers : (name : Naming) (store : Store) (before : Outside) → Stands name old.cells store before → AreOut arguments before
-    → Answers name new before r (row (map (meaning name) arguments) store)
+      → Answers name new before r (row (map (meaning name) arguments) store)
 
 -- the same for an array and arguments of its method, where the array is number n with these items
 pub record AppliesToArray (old new : Heap) (array : Value) (arguments : List Value) (r : Applied) (row : ArrayRow) : Type 0 where
   pub answers : (name : Naming) (store : Store) (before : Outside) (n : ℕ) (items : List StoreValue)
-    → Stands name old.cells store before → AreOut (array ∷ arguments) before
-    → meaning name array ≡ Reference n → slice_get store n ≡ Some (ArrayObject items)
-    → Answers name new before r (row n items (map (meaning name) arguments) store)
+      → Stands name old.cells store before → AreOut (array ∷ arguments) before
+      → meaning name array ≡ Reference n → slice_get store n ≡ Some (ArrayObject items)
+      → Answers name new before r (row n items (map (meaning name) arguments) store)
 
 -- the same for an associative array
 pub record AppliesToMap (old new : Heap) (pairs : Value) (arguments : List Value) (r : Applied) (row : MapRow) : Type 0 where
   pub answers : (name : Naming) (store : Store) (before : Outside) (n : ℕ) (entries : List (Entry StoreValue))
-    → Stands name old.cells store before → AreOut (pairs ∷ arguments) before
-    → meaning name pairs ≡ Reference n → slice_get store n ≡ Some (MapObject entries)
-    → Answers name new before r (row n entries (map (meaning name) arguments) store)
+      → Stands name old.cells store before → AreOut (pairs ∷ arguments) before
+      → meaning name pairs ≡ Reference n → slice_get store n ≡ Some (MapObject entries)
+      → Answers name new before r (row n entries (map (meaning name) arguments) store)
 
 -- whatever the store that the heap stands for, the array's items change in this way
 pub record ArrayBecomes (old new : Heap) (array : Value) (change : List StoreValue → List StoreValue) : Type 0 where
   pub stands : (name : Naming) (store : Store) (before : Outside) (n : ℕ) (items : List StoreValue)
-    → Stands name old.cells store before → AreOut (array ∷ []) before
-    → meaning name array ≡ Reference n → slice_get store n ≡ Some (ArrayObject items)
-    → Stands name new.cells (slice_set store n (ArrayObject (change items))) before
+      → Stands name old.cells store before → AreOut (array ∷ []) before
+      → meaning name array ≡ Reference n → slice_get store n ≡ Some (ArrayObject items)
+      → Stands name new.cells (slice_set store n (ArrayObject (change items))) before
 
 -- whatever the store that the heap stands for, the array has further items at its end: a part of those of another one
 pub record Appends (old new : Heap) (array from : Value) (part : List StoreValue → List StoreValue) : Type 0 where
   pub stands : (name : Naming) (store : Store) (before : Outside) (n m : ℕ) (items more : List StoreValue)
-    → Stands name old.cells store before → AreOut (array ∷ from ∷ []) before
-    → meaning name array ≡ Reference n → slice_get store n ≡ Some (ArrayObject items)
-    → meaning name from ≡ Reference m → slice_get store m ≡ Some (ArrayObject more)
-    → Stands name new.cells (slice_set store n (ArrayObject (items ++ part more))) before
+      → Stands name old.cells store before → AreOut (array ∷ from ∷ []) before
+      → meaning name array ≡ Reference n → slice_get store n ≡ Some (ArrayObject items)
+      → meaning name from ≡ Reference m → slice_get store m ≡ Some (ArrayObject more)
+      → Stands name new.cells (slice_set store n (ArrayObject (items ++ part more))) before
 
 -- whatever the store that the heap stands for, the associative array's entries change in this way
 pub record MapBecomes (old new : Heap) (pairs : Value) (change : List (Entry StoreValue) → List (Entry StoreValue)) : Type 0 where
   pub stands : (name : Naming) (store : Store) (before : Outside) (n : ℕ) (entries : List (Entry StoreValue))
-    → Stands name old.cells store before → AreOut (pairs ∷ []) before
-    → meaning name pairs ≡ Reference n → slice_get store n ≡ Some (MapObject entries)
-    → Stands name new.cells (slice_set store n (MapObject (change entries))) before
+      → Stands name old.cells store before → AreOut (pairs ∷ []) before
+      → meaning name pairs ≡ Reference n → slice_get store n ≡ Some (MapObject entries)
+      → Stands name new.cells (slice_set store n (MapObject (change entries))) before

@@ -1,5 +1,5 @@
 -- The methods of associative arrays, for associative array n with its entries.
-use Rattle.std.specs.Prelude.{ℕ, true, false, Bool, ◌+◌, ◌^◌, List, [], ◌∷◌, ◌++◌, map, length, Option, Some, None, cond, nat_le}
+use Rattle.std.specs.Prelude.{ℕ, true, false, ◌+◌, ◌^◌, List, [], ◌∷◌, ◌++◌, map, length, Option, Some, None, cond, nat_le}
 use Rattle.std.specs.Option.{is_some}
 use Rattle.chan_values.specs.Folded.{folded}
 use Rattle.chan_values.specs.declared.error_code.ErrorCode.TheVariants.{E2, E6, E12}

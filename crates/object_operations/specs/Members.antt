@@ -1,6 +1,5 @@
 -- Reads and writes of members and of indexes.
 use Rattle.std.specs.Prelude.{ℕ, ℤ, pos, negsuc, ◌^◌, List, [], ◌∷◌, Option, Some, None, slice_get, cond, nat_lt}
-use Rattle.chan_values.specs.Folded.{folded}
 use Rattle.chan_values.specs.declared.error_code.ErrorCode.TheVariants.{E2, E4, E6, E12}
 use Rattle.heap_meaning.specs.Values.{StoreValue, Scalar, Words, Reference, filler_meant}
 use Rattle.heap_meaning.specs.Keys.{placed}

@@ -1,5 +1,5 @@
 -- The methods of messages.
-use Rattle.std.specs.Prelude.{List, [], ◌∷◌}
+use Rattle.std.specs.Prelude.{List, []}
 use Rattle.chan_values.specs.declared.error_code.ErrorCode.TheVariants.{E6}
 use Rattle.chan_values.specs.declared.message.Message as m
 use Rattle.heap_meaning.specs.declared.plain.Plain.TheVariants as p

@@ -7,7 +7,7 @@ use Rattle.heap_meaning.specs.declared.plain.Plain as p
 use Rattle.heap_meaning.specs.declared.plain.Plain.TheVariants.{Invalid}
 use Rattle.heap_meaning.specs.Values.{StoreValue, Scalar, Words, Reference, Entry}
 use Rattle.heap_meaning.specs.Store.{Object, ArrayObject, MapObject, MessageObject, Store}
-use Rattle.heap_meaning.specs.Cells.{Content, Text, Array, Pairs, Message}
+use Rattle.heap_meaning.specs.Cells.{Content, Array, Pairs, Message}
 use Rattle.object_operations.specs.Answer.{Answer, Raises}
 use Rattle.object_operations.specs.declared.receiver.Receiver.{Receiver}
 use Rattle.object_operations.specs.declared.receiver.Receiver.TheVariants as r

@@ -17,12 +17,7 @@ use chan_values::{ErrorCode, NoMemory};
 const MAX_LENGTH: usize = 1 << 20;
 
 /// Puts an item before those from a place of an array on.
-fn insert_at(
-    heap: &mut Heap,
-    array: &Value,
-    at: usize,
-    item: &Value,
-) -> Result<Applied, NoMemory>
+fn insert_at(heap: &mut Heap, array: &Value, at: usize, item: &Value) -> Result<Applied, NoMemory>
     requires array { HoldsArray (content_at heap.old array.now) }
     requires at { at ≤ length_in (content_at heap.old array.now) }
     requires shares { 0 < heap.old.shares }
@@ -154,12 +149,7 @@ pub fn clear(heap: &mut Heap, array: &Value) -> Applied
 }
 
 /// Puts the item that another array has at a place, if there is one, at the end.
-fn append_item(
-    heap: &mut Heap,
-    array: &Value,
-    from: &Value,
-    at: usize,
-) -> Result<(), NoMemory>
+fn append_item(heap: &mut Heap, array: &Value, from: &Value, at: usize) -> Result<(), NoMemory>
     requires array { HoldsArray (content_at heap.old array.now) }
     requires shares { 0 < heap.old.shares }
     ensures appended { OnOk result (Appends heap.old heap.new array.now from.now (λ more. item_list (slice_get more at))) }

@@ -1,9 +1,8 @@
 //! The methods of associative arrays.
-ghost use Rattle.std.specs.Prelude.{◌≡◌, ◌+◌, ◌^◌, ◌<◌, ◌≤◌, [], ◌∷◌, IfOk, OnOk, slice_get};
+ghost use Rattle.std.specs.Prelude.{◌≡◌, ◌+◌, ◌<◌, ◌≤◌, [], ◌∷◌, IfOk, OnOk};
 ghost use Rattle.std.specs.List.{remove};
-ghost use Rattle.chan_values.specs.Folded.{folded};
 ghost use Rattle.heap_meaning.specs.Heap.{content_at};
-ghost use Rattle.heap_meaning.specs.Reading.{HoldsPairs, text_in, keys_in};
+ghost use Rattle.heap_meaning.specs.Reading.{HoldsPairs, text_in};
 ghost use Rattle.object_operations.specs.Applies.{AppliesToMap, MapBecomes};
 ghost use Rattle.object_operations.specs.Maps.{method_of_map};
 ghost use Rattle.object_operations.specs.declared.map_method.MapMethod.TheVariants.{AddReplace, Clear, Lookup, DoesExist, Delete, Count};
@@ -132,11 +131,7 @@ fn drop_key(alloc: Global, heap: &mut Heap, pairs: &Value, at: usize) -> Result<
 }
 
 /// `clear()`
-pub fn clear_keys(
-    alloc: Global,
-    heap: &mut Heap,
-    pairs: &Value,
-) -> Result<Applied, NoMemory>
+pub fn clear_keys(alloc: Global, heap: &mut Heap, pairs: &Value) -> Result<Applied, NoMemory>
     ensures answer { IfOk result (λ r. AppliesToMap heap.old heap.new pairs.now [] r (method_of_map Clear)) }
     ensures shares { heap.new.shares ≡ heap.old.shares }
 {

@@ -1,14 +1,14 @@
 //! Reads and writes of members and of indexes.
-ghost use Rattle.std.specs.Prelude.{◌≡◌, ◌+◌, ◌^◌, ◌<◌, ◌≤◌, [], ◌∷◌, IfOk};
+ghost use Rattle.std.specs.Prelude.{◌+◌, ◌<◌, ◌≤◌, [], ◌∷◌, IfOk};
 ghost use Rattle.heap_meaning.specs.Heap.{content_at};
 ghost use Rattle.heap_meaning.specs.Reading.{HoldsArray};
 ghost use Rattle.object_operations.specs.Applies.{Applies, AppliesToArray};
 ghost use Rattle.object_operations.specs.Members.{read_member_row, write_member_row, read_index_row, write_index_row, read_item, write_item};
 
+use crate::Applied;
 use crate::maps::{lookup, put};
 use crate::numbers::{number, place};
 use crate::receiver::{Receiver, receiver_of, refusal};
-use crate::Applied;
 use brs_heap::{Heap, Plain, Value};
 use chan_values::{ErrorCode, NoMemory};
 use std::alloc::Global;
@@ -19,11 +19,7 @@ const MAX_LENGTH: usize = 1 << 20;
 /// `x.k`, where `x` is no node: the value and the key, which is a String.
 ///
 /// Source: BrightScript Language Reference, "Expressions, Variables, and Types": dot operator.
-pub fn read_member(
-    alloc: Global,
-    heap: &mut Heap,
-    arguments: &[Value],
-) -> Result<Applied, NoMemory>
+pub fn read_member(alloc: Global, heap: &mut Heap, arguments: &[Value]) -> Result<Applied, NoMemory>
     requires shares { 0 < heap.old.shares }
     ensures answer { IfOk result (λ r. Applies heap.old heap.new arguments.now r read_member_row) }
     ensures shares { heap.old.shares ≤ heap.new.shares + 1 }
@@ -77,11 +73,7 @@ fn item(heap: &mut Heap, array: &Value, i: &Value) -> Applied
 /// `x[i]`, where `x` is no node: the value and the index.
 ///
 /// Source: BrightScript Language Reference, "Expressions, Variables, and Types": array operator.
-pub fn read_index(
-    alloc: Global,
-    heap: &mut Heap,
-    arguments: &[Value],
-) -> Result<Applied, NoMemory>
+pub fn read_index(alloc: Global, heap: &mut Heap, arguments: &[Value]) -> Result<Applied, NoMemory>
     requires shares { 0 < heap.old.shares }
     ensures answer { IfOk result (λ r. Applies heap.old heap.new arguments.now r read_index_row) }
     ensures shares { heap.old.shares ≤ heap.new.shares + 1 }
@@ -97,12 +89,7 @@ pub fn read_index(
 }
 
 /// Puts a value at a number of an array, which grows past its end with `invalid`.
-fn put_item(
-    heap: &mut Heap,
-    array: &Value,
-    i: &Value,
-    v: &Value,
-) -> Result<Applied, NoMemory>
+fn put_item(heap: &mut Heap, array: &Value, i: &Value, v: &Value) -> Result<Applied, NoMemory>
     requires array { HoldsArray (content_at heap.old array.now) }
     requires shares { 0 < heap.old.shares }
     ensures answer { IfOk result (λ r. AppliesToArray heap.old heap.new array.now (i.now ∷ v.now ∷ []) r write_item) }
@@ -125,11 +112,7 @@ fn put_item(
 }
 
 /// `x[i] = v`, where `x` is no node: the value, the index and the new value.
-pub fn write_index(
-    alloc: Global,
-    heap: &mut Heap,
-    arguments: &[Value],
-) -> Result<Applied, NoMemory>
+pub fn write_index(alloc: Global, heap: &mut Heap, arguments: &[Value]) -> Result<Applied, NoMemory>
     requires shares { 0 < heap.old.shares }
     ensures answer { IfOk result (λ r. Applies heap.old heap.new arguments.now r write_index_row) }
     ensures shares { heap.old.shares ≤ heap.new.shares + 1 }

@@ -1,5 +1,5 @@
 //! Calls of methods of arrays, by the method and the arguments.
-ghost use Rattle.std.specs.Prelude.{◌≡◌, ◌+◌, ◌^◌, ◌<◌, ◌≤◌, [], ◌∷◌, IfOk};
+ghost use Rattle.std.specs.Prelude.{◌+◌, ◌^◌, ◌<◌, ◌≤◌, [], ◌∷◌, IfOk};
 ghost use Rattle.heap_meaning.specs.Heap.{content_at};
 ghost use Rattle.heap_meaning.specs.Reading.{HoldsArray};
 ghost use Rattle.object_operations.specs.Applies.{Applies, AppliesToArray};

@@ -1,8 +1,10 @@
 //! Worked examples: what methods, reads and writes answer, and what they leave.
 ghost use Rattle.std.specs.Prelude.{◌≡◌, ◌+◌, ◌^◌, ◌<◌, ◌≤◌};
 
-use crate::{Applied, ArrayMethod, MapMethod, call_array_method, call_map_method, call_type};
-use crate::{read_index, write_index};
+use crate::{
+    Applied, ArrayMethod, MapMethod, call_array_method, call_map_method, call_type, read_index,
+    write_index,
+};
 use brs_heap::{Heap, Plain, Value};
 use chan_values::{ErrorCode, NoMemory, Text};
 use std::alloc::Global;
@@ -74,17 +76,32 @@ fn arrays_answer_by_their_rows(rt: HostRuntime) -> Result<(), Fail> {
     let array = heap.make_array()?;
     assert_eq!(rt; bare(&mut heap, ArrayMethod::Pop, &array), -1);
     assert_eq!(rt; with(&mut heap, ArrayMethod::Push, &array, &small(1)), -1);
-    assert_eq!(rt; with(&mut heap, ArrayMethod::Unshift, &array, &small(2)), -1);
+    assert_eq!(rt;
+        with(&mut heap, ArrayMethod::Unshift, &array, &small(2)),
+        -1
+    );
     assert_eq!(rt; index(rt.alloc(), &mut heap, &array, 0), 2);
     assert_eq!(rt; index(rt.alloc(), &mut heap, &array, 1), 1);
     assert_eq!(rt; with(&mut heap, ArrayMethod::Append, &array, &array), -1);
     assert_eq!(rt; bare(&mut heap, ArrayMethod::Count, &array), 4);
-    assert_eq!(rt; with(&mut heap, ArrayMethod::Delete, &array, &small(4)), 200);
-    assert_eq!(rt; with(&mut heap, ArrayMethod::Delete, &array, &small(1)), 201);
-    assert_eq!(rt; with(&mut heap, ArrayMethod::Append, &array, &small(1)), 402);
+    assert_eq!(rt;
+        with(&mut heap, ArrayMethod::Delete, &array, &small(4)),
+        200
+    );
+    assert_eq!(rt;
+        with(&mut heap, ArrayMethod::Delete, &array, &small(1)),
+        201
+    );
+    assert_eq!(rt;
+        with(&mut heap, ArrayMethod::Append, &array, &small(1)),
+        402
+    );
     assert_eq!(rt; bare(&mut heap, ArrayMethod::Push, &array), 406);
     assert_eq!(rt; bare(&mut heap, ArrayMethod::Count, &small(1)), 404);
-    assert_eq!(rt; bare(&mut heap, ArrayMethod::Push, &Value::plain(Plain::Invalid)), 407);
+    assert_eq!(rt;
+        bare(&mut heap, ArrayMethod::Push, &Value::plain(Plain::Invalid)),
+        407
+    );
     Ok(())
 }
 
@@ -144,12 +161,30 @@ fn keys_have_no_case(rt: HostRuntime) -> Result<(), Fail> {
     let pairs = heap.make_pairs()?;
     assert_eq!(rt; put_key(rt.alloc(), &mut heap, &pairs, "Size", 3), -1);
     assert_eq!(rt; put_key(rt.alloc(), &mut heap, &pairs, "sIZE", 4), -1);
-    assert_eq!(rt; by_key(rt.alloc(), &mut heap, MapMethod::Lookup, &pairs, "SIZE"), 4);
-    assert_eq!(rt; by_key(rt.alloc(), &mut heap, MapMethod::DoesExist, &pairs, "siz"), 200);
-    assert_eq!(rt; by_key(rt.alloc(), &mut heap, MapMethod::DoesExist, &pairs, "size"), 201);
-    assert_eq!(rt; by_key(rt.alloc(), &mut heap, MapMethod::Delete, &pairs, "SiZe"), 201);
-    assert_eq!(rt; by_key(rt.alloc(), &mut heap, MapMethod::Delete, &pairs, "size"), 200);
-    assert_eq!(rt; by_key(rt.alloc(), &mut heap, MapMethod::Count, &pairs, "size"), 406);
+    assert_eq!(rt;
+        by_key(rt.alloc(), &mut heap, MapMethod::Lookup, &pairs, "SIZE"),
+        4
+    );
+    assert_eq!(rt;
+        by_key(rt.alloc(), &mut heap, MapMethod::DoesExist, &pairs, "siz"),
+        200
+    );
+    assert_eq!(rt;
+        by_key(rt.alloc(), &mut heap, MapMethod::DoesExist, &pairs, "size"),
+        201
+    );
+    assert_eq!(rt;
+        by_key(rt.alloc(), &mut heap, MapMethod::Delete, &pairs, "SiZe"),
+        201
+    );
+    assert_eq!(rt;
+        by_key(rt.alloc(), &mut heap, MapMethod::Delete, &pairs, "size"),
+        200
+    );
+    assert_eq!(rt;
+        by_key(rt.alloc(), &mut heap, MapMethod::Count, &pairs, "size"),
+        406
+    );
     let arguments = [pairs];
     let named = call_type(rt.alloc(), &mut heap, &arguments);
     assert_eq!(rt; code_of(&heap, named), 300);

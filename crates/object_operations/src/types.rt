@@ -1,5 +1,5 @@
 //! The name of a value's type, and objects made by name.
-ghost use Rattle.std.specs.Prelude.{◌≡◌, ◌≤◌, [], ◌∷◌, IfOk};
+ghost use Rattle.std.specs.Prelude.{◌≡◌, IfOk};
 ghost use Rattle.heap_meaning.specs.Heap.{content_at};
 ghost use Rattle.heap_meaning.specs.Reading.{plain_of, shape_in};
 ghost use Rattle.object_operations.specs.Applies.{Applies};
@@ -50,11 +50,7 @@ fn type_name_of(heap: &Heap, v: &Value) -> &'static str
 /// `Type(v)`
 ///
 /// Source: BrightScript Language Reference, "Runtime Functions": Type.
-pub fn call_type(
-    alloc: Global,
-    heap: &mut Heap,
-    arguments: &[Value],
-) -> Result<Applied, NoMemory>
+pub fn call_type(alloc: Global, heap: &mut Heap, arguments: &[Value]) -> Result<Applied, NoMemory>
     ensures answer { IfOk result (λ r. Applies heap.old heap.new arguments.now r type_row) }
     ensures shares { heap.new.shares ≡ heap.old.shares }
 {

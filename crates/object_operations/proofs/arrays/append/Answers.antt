@@ -1,4 +1,4 @@
-use Rattle.std.proofs.Common.{rules, arith, ◌+◌, ◌^◌, ◌<◌, length}
+use Rattle.std.proofs.Common.{rules, arith, ◌+◌, ◌^◌, ◌<◌}
 use Rattle.heap_meaning.specs.Heap.{content_at}
 use Rattle.heap_meaning.specs.Reading.{length_in}
 use Rattle.object_operations.proofs.ArrayLaws.{handed}
@@ -12,7 +12,7 @@ returns-then-not-holds_array-clause-answer c = appends_no_array c.args.heap.now 
 pub returns-then-more-gt-MAX_LENGTH-clause-answer : goal.returns-then-more-gt-MAX_LENGTH-clause-answer
 returns-then-more-gt-MAX_LENGTH-clause-answer c =
     let long : 2 ^ 20 < length_in (content_at c.args.heap.now c.args.array.now) + length_in (content_at c.args.heap.now c.args.from.now) =
-        elim c.then-more-gt-MAX_LENGTH.branch [ then-more-gt-MAX_LENGTH-via-then-more-gt-MAX_LENGTH w ↦ omega arith | then-more-gt-MAX_LENGTH-via-else-more-gt-MAX_LENGTH+then-length-more w ↦ omega arith ] in
+    elim c.then-more-gt-MAX_LENGTH.branch [ then-more-gt-MAX_LENGTH-via-then-more-gt-MAX_LENGTH w ↦ omega arith | then-more-gt-MAX_LENGTH-via-else-more-gt-MAX_LENGTH+then-length-more w ↦ omega arith ] in
     appends_too_long c.args.heap.now c.args.array.now c.args.from.now (search rules) long
 
 pub loop-at-init : goal.loop-at-init

@@ -1,4 +1,4 @@
-use Rattle.std.proofs.Common.{◌≡◌, ◌+◌, ◌≤◌, take}
+use Rattle.std.proofs.Common.{◌+◌, ◌≤◌, take}
 use Rattle.heap_meaning.specs.Heap.{content_at}
 use Rattle.heap_meaning.specs.Reading.{HoldsArray}
 use Rattle.object_operations.specs.Applies.{Appends}

@@ -1,4 +1,4 @@
-use Rattle.std.proofs.Common.{◌-◌, refl, rules, arith, ◌∙◌}
+use Rattle.std.proofs.Common.{◌-◌, rules, arith}
 use Rattle.object_operations.proofs.ArrayLaws.{handed}
 use Rattle.object_operations.proofs.ArrayLoops.{clear_start, clear_step, clears}
 use Rattle.object_operations.proofs.arrays.clear.Goals as goal

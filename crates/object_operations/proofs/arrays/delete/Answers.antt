@@ -1,4 +1,4 @@
-use Rattle.std.proofs.Common.{sym, ap, rules, ◌∙◌}
+use Rattle.std.proofs.Common.{sym, rules, ◌∙◌}
 use Rattle.object_operations.proofs.ArrayLaws.{handed}
 use Rattle.object_operations.proofs.ArrayLoops.{deletes_no_number, deletes_below, deletes_at, none_of}
 use Rattle.object_operations.proofs.arrays.delete.Goals as goal

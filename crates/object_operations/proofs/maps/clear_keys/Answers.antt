@@ -1,4 +1,4 @@
-use Rattle.std.proofs.Common.{◌-◌, refl, rules, arith, sym, ◌∙◌}
+use Rattle.std.proofs.Common.{◌-◌, rules, arith}
 use Rattle.object_operations.proofs.MapLaws.{map_handed}
 use Rattle.object_operations.proofs.MapLoops.{clear_keys_start, clear_keys_step, clears_keys}
 use Rattle.object_operations.proofs.maps.clear_keys.Goals as goal

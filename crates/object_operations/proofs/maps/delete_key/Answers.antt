@@ -1,4 +1,4 @@
-use Rattle.std.proofs.Common.{rules, sym, ap, ◌∙◌}
+use Rattle.std.proofs.Common.{rules, sym, ◌∙◌}
 use Rattle.object_operations.proofs.MapLaws.{deletes_none, deletes_key, map_handed, map_unmoved}
 use Rattle.object_operations.proofs.maps.delete_key.Goals as goal
 

@@ -1,4 +1,4 @@
-use Rattle.std.proofs.Common.{rules, sym, ap, ◌∙◌}
+use Rattle.std.proofs.Common.{rules, ap, ◌∙◌}
 use Rattle.std.specs.Option.{is_some}
 use Rattle.object_operations.proofs.MapLaws.{exists_no_text, exists_is, some_copied}
 use Rattle.object_operations.proofs.maps.exists.Goals as goal

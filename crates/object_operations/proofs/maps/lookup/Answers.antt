@@ -1,5 +1,5 @@
-use Rattle.std.proofs.Common.{rules, sym, ap, ◌∙◌}
-use Rattle.object_operations.proofs.MapLaws.{lookup_no_text, looks_up_none, looks_up, map_handed, map_unmoved}
+use Rattle.std.proofs.Common.{rules, sym, ◌∙◌}
+use Rattle.object_operations.proofs.MapLaws.{looks_up_none, looks_up, map_handed, map_unmoved}
 use Rattle.object_operations.proofs.maps.lookup.Goals as goal
 
 pub returns-in-None-clause-answer : goal.returns-in-None-clause-answer

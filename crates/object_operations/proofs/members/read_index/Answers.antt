@@ -1,4 +1,4 @@
-use Rattle.std.proofs.Common.{rules, arith, sym, ap, [], ◌∷◌, ◌∙◌}
+use Rattle.std.proofs.Common.{rules, arith, [], ◌∷◌}
 use Rattle.object_operations.proofs.Answering.{through}
 use Rattle.object_operations.proofs.Listing.{two}
 use Rattle.object_operations.proofs.Told.{refuses_read_index, reads_item, reads_key, with_arguments}

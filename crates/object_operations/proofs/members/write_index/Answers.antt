@@ -1,4 +1,4 @@
-use Rattle.std.proofs.Common.{rules, arith, sym, ap, [], ◌∷◌, ◌∙◌}
+use Rattle.std.proofs.Common.{rules, arith, [], ◌∷◌}
 use Rattle.object_operations.proofs.Answering.{through}
 use Rattle.object_operations.proofs.Listing.{three}
 use Rattle.object_operations.proofs.Told.{refuses_write_index, writes_item, writes_key, with_arguments}

@@ -1,4 +1,4 @@
-use Rattle.std.proofs.Common.{rules, arith, sym, ap, [], ◌∷◌, ◌∙◌, ◌-◌, length, take, drop}
+use Rattle.std.proofs.Common.{rules, arith, ◌∷◌, ◌-◌, length, take, drop}
 use Rattle.object_operations.specs.Arrays.{method_of_array}
 use Rattle.object_operations.proofs.Answering.{through}
 use Rattle.object_operations.proofs.Listing.{first}

@@ -1,4 +1,4 @@
-use Rattle.std.proofs.Common.{rules, sym, ap, [], ◌∷◌, ◌++◌, ◌∙◌}
+use Rattle.std.proofs.Common.{ap, [], ◌∷◌, ◌++◌, ◌∙◌}
 use Rattle.object_operations.proofs.Listing.{only_one}
 use Rattle.object_operations.proofs.TypeLaws.{names_type}
 use Rattle.object_operations.proofs.Told.{with_arguments}
