@@ -1,0 +1,5 @@
+pub mod SameTree
+pub mod Nodes
+pub mod Fields
+pub mod Family
+pub mod Search

@@ -1,0 +1,16 @@
+//! The nodes of a run: their kinds, owners, fields, parents and children.
+#![tactic(auto)]
+
+mod answers;
+mod children;
+mod family;
+mod field;
+mod field_calls;
+mod field_list;
+mod held;
+mod names;
+mod node;
+mod nodes;
+
+pub use answers::{FieldLine, SetResult};
+pub use nodes::{MAX_NODES, Nodes};
