@@ -1,5 +1,5 @@
 -- Parents and children: ancestors, and how a node gets another parent.
-use Rattle.std.specs.Prelude.{◌≡◌, ℤ, pos, negsuc, ℕ, zero, suc, ◌≤◌, ◌==◌, Bool, true, false, not, ◌&&◌, List, [], ◌∷◌, ◌++◌, Option, Some, None, length, min, insert, slice_get, count_by, if◌then◌else◌}
+use Rattle.std.specs.Prelude.{◌≡◌, ℤ, pos, negsuc, ℕ, zero, suc, ◌+◌, ◌≤◌, ◌==◌, Bool, true, false, not, List, [], ◌∷◌, Option, Some, None, length, min, insert, slice_get, if◌then◌else◌}
 use Rattle.std.specs.List.{list_any}
 use Rattle.node_tree.specs.declared.node.Node.{Node}
 use Rattle.node_tree.specs.declared.children.Place.{Place}
@@ -36,10 +36,14 @@ left_parent (Some p) c nodes = with_node (with_children (without c)) nodes p
 abbrev pub left : List Node → ℕ → List Node
 left nodes c = left_parent (parent_of nodes c) c nodes
 
--- a list of children in which c takes a place: the last, or one that is cut to the last
+-- a place in a list of so many: the last, or one that is cut to the last
+abbrev pub place_in : Place → ℕ → ℕ
+place_in Last count = count
+place_in (At at) count = min at count
+
+-- a list of children in which c takes a place
 abbrev pub with_child : Place → ℕ → List ℕ → List ℕ
-with_child Last c ks = ks ++ c ∷ []
-with_child (At at) c ks = insert ks (min at (length ks)) c
+with_child place c ks = insert ks (place_in place (length ks)) c
 
 -- c stands among the children of n
 abbrev pub standing : Place → List Node → ℕ → ℕ → List Node
@@ -89,7 +93,8 @@ once_where false = 0
 
 -- how often a number stands in a list
 abbrev pub times : ℕ → List ℕ → ℕ
-times n ns = count_by (λ k. k == n) ns
+times n [] = 0
+times n (k ∷ ks) = once_where (k == n) + times n ks
 
 -- a node stands once among the children of its parent, and among no others
 pub record IsFamily (nodes : List Node) : Type 0 where

@@ -11,7 +11,7 @@ use Rattle.node_tree.specs.declared.node.Node.{Node}
 use Rattle.node_tree.specs.declared.answers.SetResult.{SetResult}
 use Rattle.node_tree.specs.declared.answers.SetResult.TheVariants.{NoField, NoFit, Same, Changed}
 use Rattle.node_tree.specs.SameTree.{same_tree}
-use Rattle.node_tree.specs.Nodes.{fields_of, with_node, with_fields}
+use Rattle.node_tree.specs.Nodes.{fields_of, change_first, with_node, with_fields}
 
 -- the field of this name, in any case of its letters
 abbrev pub field_named : List ℕ → List Field → Option Field
@@ -43,8 +43,7 @@ set_answer (Some f) v = fit_answer f (converted f.kind v)
 
 -- the value of the first field of this name is another
 abbrev pub with_value : List ℕ → Tree → List Field → List Field
-with_value name v [] = []
-with_value name v (f ∷ fs) = if is_alike f.id name then record f { value = v } ∷ fs else f ∷ with_value name v fs
+with_value name v fields = change_first (λ f. is_alike f.id name) (λ f. record f { value = v }) fields
 
 abbrev pub with_fit : List ℕ → Option Tree → List Field → List Field
 with_fit name None fields = fields

@@ -1,5 +1,5 @@
 -- The nodes of a run, numbered from 1 in the order of making, and what each has.
-use Rattle.std.specs.Prelude.{◌≡◌, ℕ, zero, suc, ◌≤◌, List, [], ◌∷◌, Option, Some, None, length, slice_get, option_map}
+use Rattle.std.specs.Prelude.{ℕ, zero, suc, ◌≤◌, Bool, List, [], ◌∷◌, Option, Some, None, length, slice_get, option_map, if◌then◌else◌}
 use Rattle.node_tree.specs.declared.field.Field.{Field}
 use Rattle.node_tree.specs.declared.node.Node.{Node}
 
@@ -48,6 +48,11 @@ abbrev pub changed : {A : Type 0} → (A → A) → List A → ℕ → List A
 changed f [] at = []
 changed f (x ∷ xs) zero = f x ∷ xs
 changed f (x ∷ xs) (suc at) = x ∷ changed f xs at
+
+-- the first item that passes, changed
+abbrev pub change_first : {A : Type 0} → (A → Bool) → (A → A) → List A → List A
+change_first p f [] = []
+change_first p f (x ∷ xs) = if p x then f x ∷ xs else (x ∷ change_first p f xs)
 
 abbrev pub with_node : (Node → Node) → List Node → ℕ → List Node
 with_node f nodes zero = nodes

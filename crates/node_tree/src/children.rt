@@ -1,6 +1,6 @@
 //! The children of a node.
-ghost use Rattle.std.specs.Prelude.{◌≡◌, [], length, OnOk, OnErr, IsTrue};
-ghost use Rattle.node_tree.specs.Family.{has, without, with_child};
+ghost use Rattle.std.specs.Prelude.{◌≡◌, ◌==◌, [], position, OnOk, OnErr, IsTrue};
+ghost use Rattle.node_tree.specs.Family.{has, without, place_in, with_child};
 
 use chan_values::NoMemory;
 use std::alloc::Global;
@@ -12,6 +12,16 @@ pub enum Place {
     /// At this place, counted from 0, or last where there are fewer.
     At(usize),
     Last,
+}
+
+/// The place in a list of so many, in which each place behind the end is the end.
+fn place_in(place: Place, count: usize) -> usize
+    ensures { result ≡ place_in place count }
+{
+    match place {
+        Place::At(at) => at.min(count),
+        Place::Last => count,
+    }
 }
 
 /// The numbers of the children, in order.
@@ -52,10 +62,16 @@ impl ChildList {
         self.items.iter().any(|k| *k == child)
     }
 
+    fn place_of(&self, child: u32) -> Option<usize>
+        ensures { result ≡ position (λ k. k == child) self.now }
+    {
+        self.items.iter().position(|k| *k == child)
+    }
+
     pub fn remove(&mut self, child: u32)
         ensures { self.new ≡ without child self.old }
     {
-        if let Some(at) = self.items.iter().position(|k| *k == child) {
+        if let Some(at) = self.place_of(child) {
             self.items.remove(at);
         }
     }
@@ -65,10 +81,7 @@ impl ChildList {
         ensures ok { OnOk result (self.new ≡ with_child place child self.old) }
         ensures err { OnErr result (self.new ≡ self.old) }
     {
-        let at = match place {
-            Place::At(at) => at.min(self.items.len()),
-            Place::Last => self.items.len(),
-        };
+        let at = place_in(place, self.items.len());
         match self.items.insert(at, child) {
             Ok(()) => Ok(()),
             Err(_) => Err(NoMemory),
@@ -80,14 +93,11 @@ impl ChildList {
         requires { IsTrue (has child self.old) }
         ensures { self.new ≡ with_child place child (without child self.old) }
     {
-        let Some(at) = self.items.iter().position(|k| *k == child) else {
+        let Some(at) = self.place_of(child) else {
             unreachable!()
         };
         self.items.remove(at);
-        let to = match place {
-            Place::At(at) => at.min(self.items.len()),
-            Place::Last => self.items.len(),
-        };
+        let to = place_in(place, self.items.len());
         let Ok(()) = self.items.insert(to, child) else {
             unreachable!()
         };

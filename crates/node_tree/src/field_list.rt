@@ -63,11 +63,17 @@ impl FieldList {
         self.items.iter().find(|f| is_alike(&f.id, name))
     }
 
+    fn place_of(&self, name: &[u8]) -> Option<usize>
+        ensures { result ≡ position (λ f. is_alike f.id name.now) self.now }
+    {
+        self.items.iter().position(|f| is_alike(&f.id, name))
+    }
+
     /// Gives the field of this name a value.
     pub fn set(&mut self, name: &[u8], value: Held)
         ensures { self.new ≡ with_value name.now value self.old }
     {
-        if let Some(at) = self.items.iter().position(|f| is_alike(&f.id, name)) {
+        if let Some(at) = self.place_of(name) {
             self.items[at].value = value;
         }
     }

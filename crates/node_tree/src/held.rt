@@ -7,9 +7,15 @@ use chan_values::{Portable, same};
 use std::marker::Model;
 
 /// A value, which contracts see as its tree.
-#[derive(Drop)]
 pub struct Held {
     value: Portable,
+}
+
+// By hand, so that a field that is written drops its old value by a call, and not kind by kind.
+impl Drop for Held {
+    fn drop(self) {
+        let Held { value: _value } = self;
+    }
 }
 
 impl Model for Held {

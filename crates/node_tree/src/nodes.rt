@@ -2,7 +2,7 @@
 ghost use Rattle.std.specs.Prelude.{◌≡◌, ◌≤◌, length, Some};
 ghost use Rattle.std.specs.Option.{option_copied};
 ghost use Rattle.node_tree.specs.Nodes.{IsNode, node_at, kind_of, owner_of, parent_of, children_of};
-ghost use Rattle.node_tree.specs.Family.{IsFamily, child_at};
+ghost use Rattle.node_tree.specs.Family.{IsFamily, IsSound, child_at};
 
 use crate::node::Node;
 use chan_values::Text;
@@ -50,7 +50,8 @@ impl Nodes {
 
     pub(crate) fn node(&self, node: u32) -> &Node
         requires { IsNode self.now node }
-        ensures { node_at self.now node ≡ Some result.now }
+        ensures is { node_at self.now node ≡ Some result.now }
+        ensures sound { IsSound self.now }
     {
         &self.nodes[node as usize - 1]
     }
