@@ -5,3 +5,5 @@ pub mod FieldWrites
 pub mod Kin
 pub mod Upward
 pub mod Moves
+pub mod Lineages
+pub mod Visits

@@ -3,3 +3,5 @@ pub mod Nodes
 pub mod Fields
 pub mod Family
 pub mod Search
+pub mod Making
+pub mod Pending

@@ -16,6 +16,15 @@ pub enum SetResult {
     Changed,
 }
 
+/// Why no node was made.
+#[derive(Clone, Copy, Debug, PartialEq, Eq)]
+pub enum MakeFault {
+    /// There would be more than `MAX_NODES` nodes.
+    TooManyNodes,
+    /// Memory ran out.
+    NoMemory,
+}
+
 /// A field, as the report shows it.
 #[derive(Clone, Copy)]
 pub struct FieldLine<'a> {

@@ -8,9 +8,11 @@ mod field;
 mod field_calls;
 mod field_list;
 mod held;
+mod making;
 mod names;
 mod node;
 mod nodes;
+mod search;
 
-pub use answers::{FieldLine, SetResult};
+pub use answers::{FieldLine, MakeFault, SetResult};
 pub use nodes::{MAX_NODES, Nodes};
