@@ -63,17 +63,17 @@ pub passed_over : (p : ℕ → Bool) (nodes : List Node) (pending rest : List Pe
 passed_over p nodes pending rest e all h none said = sym (ap (λ l. find p (to_come nodes l)) h ∙ ap (find p) (levels_are nodes rest e 0 none)) ∙ said
 
 pub visited : (p : ℕ → Bool) (nodes : List Node) (pending rest new : List Pending) (e : Pending) (most : ℕ) (all : Option ℕ) → pending ≡ rest ++ e ∷ [] → e.levels ≡ suc most → p e.node ≡ false → new ≡ rest ++ map (pending_at most) (reverse (children_of nodes e.node)) → find p (to_come nodes pending) ≡ all → find p (to_come nodes new) ≡ all
-visited p nodes pending rest new e most all h some no more said =
+visited p nodes pending rest new e most all h some misses more said =
     ap (λ l. find p (to_come nodes l)) more
     ∙ ap (find p) (children_to_come nodes most (children_of nodes e.node) rest)
-    ∙ sym (ap (λ b. cond b (Some e.node) (find p (flat_map (preorder most nodes) (children_of nodes e.node) ++ to_come nodes rest))) no)
+    ∙ sym (ap (λ b. cond b (Some e.node) (find p (flat_map (preorder most nodes) (children_of nodes e.node) ++ to_come nodes rest))) misses)
     ∙ sym (ap (find p) (levels_are nodes rest e (suc most) some))
     ∙ sym (ap (λ l. find p (to_come nodes l)) h)
     ∙ said
 
 pub here_found : (p : ℕ → Bool) (nodes : List Node) (pending rest : List Pending) (e : Pending) (most : ℕ) (all : Option ℕ) → pending ≡ rest ++ e ∷ [] → e.levels ≡ suc most → p e.node ≡ true → find p (to_come nodes pending) ≡ all → Some e.node ≡ all
-here_found p nodes pending rest e most all h some yes said =
-    sym (ap (λ b. cond b (Some e.node) (find p (flat_map (preorder most nodes) (children_of nodes e.node) ++ to_come nodes rest))) yes)
+here_found p nodes pending rest e most all h some hits said =
+    sym (ap (λ b. cond b (Some e.node) (find p (flat_map (preorder most nodes) (children_of nodes e.node) ++ to_come nodes rest))) hits)
     ∙ sym (ap (find p) (levels_are nodes rest e (suc most) some))
     ∙ sym (ap (λ l. find p (to_come nodes l)) h)
     ∙ said
