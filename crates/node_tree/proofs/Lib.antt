@@ -7,3 +7,4 @@ pub mod Upward
 pub mod Moves
 pub mod Lineages
 pub mod Visits
+pub mod Stays

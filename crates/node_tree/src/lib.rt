@@ -8,6 +8,7 @@ mod field;
 mod field_calls;
 mod field_list;
 mod held;
+mod laws;
 mod making;
 mod names;
 mod node;
@@ -15,4 +16,8 @@ mod nodes;
 mod search;
 
 pub use answers::{FieldLine, MakeFault, SetResult};
+pub use laws::{fields_leave_families, owners_stay};
 pub use nodes::{MAX_NODES, Nodes};
+
+#[cfg(test)]
+mod tests;
