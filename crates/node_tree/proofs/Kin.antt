@@ -245,6 +245,7 @@ taken_left nodes family c q e =
         let once = family.once p c in
         let none : once_where (is p (parent_of nodes c)) ≡ 0 = ap (λ o. once_where (is p o)) e ∙ ap once_where ne.1 in
         ap (times c) (children_other (without c) nodes q p ne.0) ∙ (once ∙ none)
+
     others_at : (p m : ℕ) → c ≢ m → ((q ≡ p) ⊎ ((q ≢ p) × ((q == p) ≡ false))) → times m (children_of (with_node (with_children (without c)) nodes q) p) ≡ once_where (is p (parent_of nodes m))
     others_at p m ne (inl same) =
         let here = children_here (without c) nodes q (parent_is_node nodes family c q e) in

@@ -31,7 +31,12 @@ impl Nodes {
     /// or the value differs. After an `Err` nothing has changed.
     ///
     /// Source: SceneGraph Reference, "ifSGNodeField", "setField", and SceneGraph XML Guide, "interface", on `alwaysNotify`.
-    pub fn set_field(&mut self, node: u32, field: &[u8], p: &Portable) -> Result<SetResult, NoMemory>
+    pub fn set_field(
+        &mut self,
+        node: u32,
+        field: &[u8],
+        p: &Portable,
+    ) -> Result<SetResult, NoMemory>
         requires { IsNode self.old node }
         ensures answer { IfOk result (λ r. r ≡ set_answer (field_of self.old node field.now) (tree_of p.now)) }
         ensures after { OnOk result (self.new ≡ after_set self.old node field.now (tree_of p.now)) }
@@ -46,7 +51,9 @@ impl Nodes {
         if !old.always && old.value.is(&value) {
             return Ok(SetResult::Same);
         }
-        self.nodes[node as usize - 1].fields.set(field, Held::new(value));
+        self.nodes[node as usize - 1]
+            .fields
+            .set(field, Held::new(value));
         Ok(SetResult::Changed)
     }
 
@@ -54,7 +61,13 @@ impl Nodes {
     /// of this name, in any case of its letters. After an `Err` nothing has changed.
     ///
     /// Source: SceneGraph Reference, "ifSGNodeField", "addField".
-    pub fn add_field(&mut self, node: u32, field: &[u8], t: FieldType, always: bool) -> Result<bool, NoMemory>
+    pub fn add_field(
+        &mut self,
+        node: u32,
+        field: &[u8],
+        t: FieldType,
+        always: bool,
+    ) -> Result<bool, NoMemory>
         requires node { IsNode self.old node }
         requires text { IsUtf8 field.now }
         ensures answer { IfOk result (λ added. added ≡ not (has_field self.old node field.now)) }

@@ -16,7 +16,7 @@ mod nodes;
 mod search;
 
 pub use answers::{FieldLine, MakeFault, SetResult};
-pub use laws::{fields_leave_families, owners_stay};
+pub use laws::{fields_leave_families, numbers_stay, owners_stay};
 pub use nodes::{MAX_NODES, Nodes};
 
 #[cfg(test)]

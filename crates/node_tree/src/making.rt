@@ -90,12 +90,7 @@ fn push_fields_at(
     }
 }
 
-fn new_node(
-    alloc: Global,
-    plans: &PlanTable,
-    place: u32,
-    owner: u32,
-) -> Result<Node, NoMemory>
+fn new_node(alloc: Global, plans: &PlanTable, place: u32, owner: u32) -> Result<Node, NoMemory>
     requires { place < length plans.now }
     ensures { IfOk result (λ node. node ≡ new_node plans.now place owner) }
 {

@@ -30,7 +30,9 @@ impl Nodes {
     fn has_id(&self, node: u32, id: &[u8]) -> bool
         ensures { result ≡ has_id self.now id.now node }
     {
-        let Some(node) = self.at(node) else { return false };
+        let Some(node) = self.at(node) else {
+            return false
+        };
         let Some(field) = node.fields.named(b"id") else {
             return false;
         };
