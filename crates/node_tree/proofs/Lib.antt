@@ -1,0 +1,10 @@
+pub mod Places
+pub mod SameTrees
+pub mod Firsts
+pub mod FieldWrites
+pub mod Kin
+pub mod Upward
+pub mod Moves
+pub mod Lineages
+pub mod Visits
+pub mod Stays
