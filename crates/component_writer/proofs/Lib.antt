@@ -1,0 +1,6 @@
+pub mod Every
+pub mod TagsLemmas
+pub mod Good
+pub mod Derived
+pub mod Again
+pub mod AsideLemmas
