@@ -1,0 +1,8 @@
+//! The code of a tree before its names stand in tables: jumps count instructions, and each instruction holds what it names.
+#![tactic(auto)]
+
+mod buffer;
+mod draft;
+mod words;
+
+pub use draft::{Draft, DraftParameter};
