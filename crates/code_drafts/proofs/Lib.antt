@@ -1,0 +1,4 @@
+pub mod Backward
+pub mod Emitted
+pub mod Tails
+pub mod Values

@@ -1,5 +1,5 @@
 -- The code of a tree before its names stand in tables.
-use Rattle.std.specs.Prelude.{ℕ, zero, suc, ◌+◌, Bool, true, false, if◌then◌else◌, List, [], ◌∷◌, ◌++◌, length, map, reverse, Option, None, Some}
+use Rattle.std.specs.Prelude.{ℕ, zero, suc, ◌+◌, Bool, true, false, if◌then◌else◌, List, [], ◌∷◌, ◌++◌, length, map, reverse, slice_get, Option, None, Some}
 use Rattle.brs_tokens.specs.declared.place.Place.{Place}
 use Rattle.brs_grammar.specs.declared.tree.TypeWord.{TypeWord}
 use Rattle.brs_grammar.specs.Form as p
@@ -10,9 +10,10 @@ use Rattle.brs_code.specs.declared.instr.Instr.{Instr}
 use Rattle.brs_code.specs.declared.instr.Instr.TheVariants as i
 use Rattle.brs_code.specs.declared.instr.Operator.TheVariants as op
 use Rattle.code_drafts.specs.declared.draft.Draft.{Draft}
+use Rattle.code_relation.specs.declared.exits.Exits.{Exits}
 use Rattle.code_drafts.specs.declared.draft.Draft.TheVariants.{Plain, Slot, Word, Words, Marks, Function}
 use Rattle.code_drafts.specs.declared.draft.DraftParameter.{DraftParameter}
-use Rattle.code_drafts.specs.Heads.{count, others, head_instr, name_instr, keep_instr, set_instr, return_instr, for_instr, mark_of, Exits, exit_instr, value_type, needed_of, update_operator}
+use Rattle.code_relation.specs.Heads.{count, others, head_instr, name_instr, keep_instr, set_instr, return_instr, for_instr, mark_of, exit_instr, value_type, needed_of, update_operator}
 
 -- Places are told by how many instructions stand between: a jump forward says how many it passes over, and one backward how many
 -- instructions it goes back. An index into a table is 0.
@@ -81,7 +82,9 @@ abbrev mutual
   head_draft (p.Pairs keys) line k = Words (i.MakePairs 0 k) line (map key_of keys)
   head_draft (p.Member x) line k = Word (i.Member 0) line (readable x)
   head_draft (p.CallMember x) line k = Word (i.CallMember 0 (others k)) line (readable x)
-  head_draft (p.Anonymous kind ps type body) line k = function_draft line ps type body
+  head_draft (p.Anonymous kind ps type body) line k =
+      let rest = todo_code no_loops body ++ Plain i.End 0 ∷ [] in
+      Function line (reverse (params_drafts 0 ps rest)) (needed_of ps) (value_type type) (length rest) (reverse (params_code 0 ps rest))
   head_draft h line k = Plain (head_instr h 0 k) line
 
   pub forms_code : Forms → List Draft
@@ -109,11 +112,6 @@ abbrev mutual
   params_drafts n (optional at x type e ps) rest =
       record { name = x; kind = value_type type; after = length (form_code e ++ Plain (i.Bind n) at.line ∷ params_code (n + 1) ps rest) } ∷ params_drafts (n + 1) ps rest
 
-  pub function_draft : (line : ℕ) → Params → Option TypeWord → Todo → Draft
-  function_draft line ps type body =
-      let rest = todo_code no_loops body ++ Plain i.End 0 ∷ [] in
-      Function line (params_drafts 0 ps rest) (needed_of ps) (value_type type) (length rest) (reverse (params_code 0 ps rest))
-
   -- the code of a statement behind its k operands
   pub doing_code : Exits → Doing → (line k : ℕ) → List Draft
   doing_code x (p.Set aim) line k = set_draft aim line ∷ []
@@ -135,6 +133,10 @@ abbrev mutual
   todo_code x (first d at fs rest) =
       forms_code fs ++ (doing_code (farther (length (todo_code x rest)) x) d at.line (count fs) ++ todo_code x rest)
 
+-- the code of a function: its line, and what is called
+abbrev pub function_draft : (line : ℕ) → Callee → Draft
+function_draft line c = head_draft (p.Anonymous p.FunctionKind c.params c.value c.body) line 0
+
 abbrev pub step_code : Exits → Step → List Draft
 step_code x s = forms_code s.operands ++ doing_code x s.doing s.place.line (count s.operands)
 
@@ -146,27 +148,32 @@ flat g [] = []
 flat g (x ∷ xs) = g x ++ flat g xs
 
 -- an operand of a chain with its operator
+abbrev pub right_code : Head → Place → Form → List Draft
+right_code p.And at right = tested i.AndTest at.line (form_code right) ++ Plain (i.Binary op.And) at.line ∷ []
+right_code p.Or at right = tested i.OrTest at.line (form_code right) ++ Plain (i.Binary op.Or) at.line ∷ []
+right_code h at right = form_code right ++ head_draft h at.line 2 ∷ []
+
 abbrev pub operand_code : Operand → List Draft
-operand_code y = elim y.head [
-  | p.And ↦ tested i.AndTest y.place.line (form_code y.right) ++ Plain (i.Binary op.And) y.place.line ∷ []
-  | p.Or ↦ tested i.OrTest y.place.line (form_code y.right) ++ Plain (i.Binary op.Or) y.place.line ∷ []
-  | _ ↦ form_code y.right ++ head_draft y.head y.place.line 2 ∷ []
-]
+operand_code y = right_code y.head y.place y.right
 
 -- ---- what stands behind a value
 
+abbrev pub calls_one : Tail → Bool
+calls_one (arguments at es) = true
+calls_one t = false
+
 abbrev pub calls : List Tail → Bool
 calls [] = false
-calls (arguments at es ∷ ts) = true
-calls (t ∷ ts) = false
+calls (t ∷ ts) = calls_one t
 
+-- the name of a member as a text
 abbrev pub member_name : Tail → Option Text
-member_name (member at x) = Some x
+member_name (member at x) = Some (readable x)
 member_name t = None
 
 abbrev pub call_draft : Option Text → (line n : ℕ) → Draft
 call_draft None line n = Plain (i.Call n) line
-call_draft (Some x) line n = Word (i.CallMember 0 n) line (readable x)
+call_draft (Some name) line n = Word (i.CallMember 0 n) line name
 
 -- behind a member or not, and before arguments or not: a member that arguments follow directly is called
 abbrev pub tail_code : Option Text → Tail → Bool → List Draft
@@ -178,3 +185,8 @@ tail_code before (arguments at es) called = forms_code es ++ call_draft before a
 abbrev pub tails_code : Option Text → List Tail → List Draft
 tails_code before [] = []
 tails_code before (t ∷ ts) = tail_code before t (calls ts) ++ tails_code (member_name t) ts
+
+-- the member before place k
+abbrev pub name_before : List Tail → ℕ → Option Text
+name_before ts zero = None
+name_before ts (suc k) = elim (slice_get ts k) [ None ↦ None | Some t ↦ member_name t ]

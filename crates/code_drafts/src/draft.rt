@@ -18,7 +18,7 @@ pub enum Draft {
     Words(Instr, u32, Items<Text>),
     /// It names the marks of a `print`.
     Marks(Instr, u32, Items<Mark>),
-    /// An anonymous function: its line, its parameters, how many arguments it needs, what its value has to be, how many instructions its
+    /// An anonymous function: its line, its parameters from the last to the first, how many arguments it needs, what its value has to be, how many instructions its
     /// body has with its end, and its code from the last instruction to the first.
     Function(u32, Items<DraftParameter>, usize, ValueType, usize, Items<Draft>),
 }

@@ -3,6 +3,11 @@
 
 mod buffer;
 mod draft;
+mod emit;
+mod exits;
+mod lists;
+mod postfix;
+mod shapes;
 mod words;
 
 pub use draft::{Draft, DraftParameter};

@@ -6,8 +6,8 @@ ghost use Rattle.brs_grammar.specs.View.{key_of as form_key};
 ghost use Rattle.brs_forms.specs.Words as words;
 ghost use Rattle.brs_grammar.specs.View as view;
 ghost use Rattle.code_drafts.specs.declared.draft.Draft.TheVariants as draft;
-ghost use Rattle.code_drafts.specs.Heads as heads;
-ghost use Rattle.code_drafts.specs.DraftCode as code;
+ghost use Rattle.code_relation.specs.Heads as heads;
+ghost use Rattle.code_drafts.specs.DraftCode as drafts;
 
 use crate::draft::Draft;
 use brs_code::{Instr, Operator, ValueType};
@@ -122,7 +122,7 @@ pub(crate) fn number_instr(number: &[u8]) -> Instr
 
 /// The read of a variable, or of `m`.
 pub(crate) fn name_draft(alloc: Global, name: &Name, line: u32) -> Result<Draft, NoMemory>
-    ensures { IfOk result (λ d. d ≡ code.name_draft (folded name.now.text) line) }
+    ensures { IfOk result (λ d. d ≡ drafts.name_draft (folded name.now.text) line) }
 {
     let folded = folded_bytes(alloc, name.text.as_slice())?;
     if is_m(folded.as_slice()) {

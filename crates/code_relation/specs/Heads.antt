@@ -19,6 +19,7 @@ use Rattle.brs_grammar.specs.declared.tree.UpdateSign.TheVariants as update
 use Rattle.brs_grammar.specs.Form as p
 use Rattle.brs_grammar.specs.Form.{Text, Head, Forms, none, more, Params, unnamed, required, optional}
 use Rattle.brs_forms.specs.Words.{number_of, is_m}
+use Rattle.code_relation.specs.declared.exits.Exits.{Exits}
 use Rattle.brs_code.specs.declared.instr.Instr.{Instr}
 use Rattle.brs_code.specs.declared.instr.Instr.TheVariants as i
 use Rattle.brs_code.specs.declared.instr.Operator.{Operator}
@@ -125,13 +126,6 @@ abbrev pub mark_of : p.Mark → Mark
 mark_of p.Semicolon = mark.Semicolon
 mark_of p.Comma = mark.Comma
 mark_of p.Shown = mark.Value
-
--- Where an `exit` leads, and how many operands the loops that it leaves keep. Outside of loops it leads to the end of the body.
-pub record Exits : Type 0 where
-  pub for_to : ℕ
-  pub for_keeps : ℕ
-  pub while_to : ℕ
-  pub while_keeps : ℕ
 
 abbrev pub exit_instr : Exits → LoopKind → Instr
 exit_instr x loops.For = i.Exit x.for_keeps x.for_to
