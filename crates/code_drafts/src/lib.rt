@@ -8,6 +8,8 @@ mod exits;
 mod lists;
 mod postfix;
 mod shapes;
+mod target;
 mod words;
 
 pub use draft::{Draft, DraftParameter};
+pub use emit::function;
