@@ -1,5 +1,6 @@
 -- The code of functions and of their parameters.
 use Rattle.std.proofs.Common.{◌≡◌, ℕ, zero, suc, ◌+◌, ◌-◌, ◌<◌, List, [], ◌∷◌, ◌++◌, length, map, drop, drop-cons, reverse, get_or, Option, None, Some, refl, sym, ap, ◌∙◌, append_assoc, arith}
+use Rattle.std.proofs.lemmas.Grind.{reverse_onto}
 use Rattle.std.proofs.lemmas.List.{append-nil}
 use Rattle.chan_values.specs.Folded.{folded}
 use Rattle.brs_tokens.specs.declared.place.Place.{Place}
@@ -95,8 +96,8 @@ draft_more xs base code done done' one i k x h at is was made new end =
     let was' : code ≡ params_code (k + 1) rest base = was ∙ ap (λ j. params_code j (params (map parameter_of (drop j xs))) base) b ∙ ap (λ j. params_code (k + 1) (params (map parameter_of (drop j xs))) base) s in
     let made' : done ≡ reverse (params_drafts (k + 1) rest base) = made ∙ ap (λ j. reverse (at_j j)) b ∙ ap (λ j. reverse (params_drafts (k + 1) (params (map parameter_of (drop j xs))) base)) s in
     let whole : one ∷ params_drafts (k + 1) rest base ≡ at_j k =
-        ap (λ l. l ++ params_drafts (k + 1) rest base) (new ∙ ap (formal_draft k f) was')
-        ∙ sym (front_draft k f.place f.name f.default f.kind rest base)
-        ∙ ap (λ y. params_drafts k (params (map parameter_of (y ∷ drop (suc k) xs))) base) is
-        ∙ ap (λ l. params_drafts k (params (map parameter_of l)) base) (sym (drop-cons xs k x c)) in
-    end ∙ ap (λ l. l ++ one ∷ []) made' ∙ sym (reverse-cons one (params_drafts (k + 1) rest base)) ∙ ap reverse whole ∙ ap (λ j. reverse (at_j j)) (sym a)
+    ap (λ l. l ++ params_drafts (k + 1) rest base) (new ∙ ap (formal_draft k f) was')
+    ∙ sym (front_draft k f.place f.name f.default f.kind rest base)
+    ∙ ap (λ y. params_drafts k (params (map parameter_of (y ∷ drop (suc k) xs))) base) is
+    ∙ ap (λ l. params_drafts k (params (map parameter_of l)) base) (sym (drop-cons xs k x c)) in
+    end ∙ ap (λ l. l ++ one ∷ []) made' ∙ sym (reverse_onto (params_drafts (k + 1) rest base) one []) ∙ ap reverse whole ∙ ap (λ j. reverse (at_j j)) (sym a)

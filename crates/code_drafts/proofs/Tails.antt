@@ -61,7 +61,7 @@ drop_take (suc n) [] = refl
 drop_take (suc n) (x ∷ xs) = drop_take n xs
 
 -- the part at a place, as the list of what the parts are has it
-part_at : (xs : List Postfix) (k : ℕ) (x : Postfix) → k < length xs → x ≡ get_or xs k x → slice_get (map postfix_of xs) k ≡ Some (postfix_of x)
+pub part_at : (xs : List Postfix) (k : ℕ) (x : Postfix) → k < length xs → x ≡ get_or xs k x → slice_get (map postfix_of xs) k ≡ Some (postfix_of x)
 part_at xs k x h e = slice_get-map postfix_of xs k ∙ ap (option_map postfix_of) (slice_get_read xs (length xs) k x refl h e)
 
 front_at : (xs : List Postfix) (n k : ℕ) (x : Postfix) → k < n → n ≤ length xs → x ≡ get_or xs k x → slice_get (take n (map postfix_of xs)) k ≡ Some (postfix_of x)

@@ -10,7 +10,7 @@ use std::marker::Model;
 /// Code that is made from its last instruction to its first, so that each jump forward knows how far it leads. Contracts see the list
 /// from the first instruction on.
 #[derive(Drop)]
-pub(crate) struct Buffer {
+pub struct Buffer {
     items: Items<Draft>,
 }
 
@@ -29,7 +29,7 @@ impl Model for Buffer {
 
 impl Buffer {
     /// No instruction. Takes no memory.
-    pub(crate) fn new(alloc: Global) -> Buffer
+    pub fn new(alloc: Global) -> Buffer
         ensures { result ≡ [] }
     {
         Buffer {
@@ -37,14 +37,14 @@ impl Buffer {
         }
     }
 
-    pub(crate) fn len(&self) -> usize
+    pub fn len(&self) -> usize
         ensures { result ≡ length self.now }
     {
         self.items.len()
     }
 
     /// Puts an instruction in front.
-    pub(crate) fn push(&mut self, draft: Draft) -> Result<(), NoMemory>
+    pub fn push(&mut self, draft: Draft) -> Result<(), NoMemory>
         ensures { OnOk result (self.new ≡ draft ∷ self.old) }
     {
         match self.items.push(draft) {
@@ -54,7 +54,7 @@ impl Buffer {
     }
 
     /// Puts code in front.
-    pub(crate) fn append(&mut self, front: Buffer) -> Result<(), NoMemory>
+    pub fn append(&mut self, front: Buffer) -> Result<(), NoMemory>
         ensures { OnOk result (self.new ≡ front ++ self.old) }
     {
         let Buffer { items } = front;
@@ -65,7 +65,7 @@ impl Buffer {
     }
 
     /// The code from the last instruction to the first. Takes no memory.
-    pub(crate) fn into_items(self) -> Items<Draft>
+    pub fn into_items(self) -> Items<Draft>
         ensures { result ≡ reverse self }
     {
         let Buffer { items } = self;

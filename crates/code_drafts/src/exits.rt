@@ -10,7 +10,7 @@ use chan_values::NoMemory;
 use code_relation::Exits;
 
 /// At the end of a body.
-pub(crate) fn no_loops() -> Exits
+pub fn no_loops() -> Exits
     ensures { result ≡ drafts.no_loops }
 {
     Exits {
@@ -22,7 +22,7 @@ pub(crate) fn no_loops() -> Exits
 }
 
 /// Before this many instructions more.
-pub(crate) fn farther(by: usize, exits: Exits) -> Result<Exits, NoMemory>
+pub fn farther(by: usize, exits: Exits) -> Result<Exits, NoMemory>
     ensures { IfOk result (λ x. x ≡ drafts.farther by exits) }
 {
     Ok(Exits {
@@ -34,7 +34,7 @@ pub(crate) fn farther(by: usize, exits: Exits) -> Result<Exits, NoMemory>
 }
 
 /// At the end of the body of a `for` that keeps this many operands.
-pub(crate) fn inside_for(keeps: usize, exits: Exits) -> Result<Exits, NoMemory>
+pub fn inside_for(keeps: usize, exits: Exits) -> Result<Exits, NoMemory>
     ensures { IfOk result (λ x. x ≡ drafts.inside_for keeps exits) }
 {
     Ok(Exits {
@@ -46,7 +46,7 @@ pub(crate) fn inside_for(keeps: usize, exits: Exits) -> Result<Exits, NoMemory>
 }
 
 /// At the end of the body of a `while`.
-pub(crate) fn inside_while(exits: Exits) -> Result<Exits, NoMemory>
+pub fn inside_while(exits: Exits) -> Result<Exits, NoMemory>
     ensures { IfOk result (λ x. x ≡ drafts.inside_while exits) }
 {
     Ok(Exits {
@@ -58,7 +58,7 @@ pub(crate) fn inside_while(exits: Exits) -> Result<Exits, NoMemory>
 }
 
 /// The instruction of an `exit`.
-pub(crate) fn exit_instr(exits: Exits, kind: LoopKind) -> Instr
+pub fn exit_instr(exits: Exits, kind: LoopKind) -> Instr
     ensures { result ≡ heads.exit_instr exits kind }
 {
     match kind {

@@ -13,7 +13,7 @@ use sqlite_items::Items;
 use std::alloc::Global;
 
 /// The folded keys of pairs.
-pub(crate) fn keys(alloc: Global, xs: &[Pair]) -> Result<Items<Text>, NoMemory>
+pub fn keys(alloc: Global, xs: &[Pair]) -> Result<Items<Text>, NoMemory>
     ensures { IfOk result (λ keys. keys ≡ map key_of (map (λ x. x.key) (map pair_of xs.now))) }
 {
     let mut keys = Items::new(alloc);
@@ -39,7 +39,7 @@ fn mark(x: &PrintItem) -> Mark
 }
 
 /// The marks of a `print`.
-pub(crate) fn marks(alloc: Global, xs: &[PrintItem]) -> Result<Items<Mark>, NoMemory>
+pub fn marks(alloc: Global, xs: &[PrintItem]) -> Result<Items<Mark>, NoMemory>
     ensures { IfOk result (λ marks. marks ≡ map heads.mark_of (map form_mark (map print_item_of xs.now))) }
 {
     let mut marks = Items::new(alloc);
@@ -65,7 +65,7 @@ fn value_count(x: &PrintItem) -> usize
 }
 
 /// How many values a `print` has.
-pub(crate) fn count_values(xs: &[PrintItem]) -> usize
+pub fn count_values(xs: &[PrintItem]) -> usize
     ensures { result ≡ count (shown (map print_item_of xs.now)) }
 {
     let mut values = 0;
@@ -76,7 +76,7 @@ pub(crate) fn count_values(xs: &[PrintItem]) -> usize
 }
 
 /// How many arguments a call needs: up to the last parameter without a default.
-pub(crate) fn needed(xs: &[Parameter]) -> usize
+pub fn needed(xs: &[Parameter]) -> usize
     ensures { result ≡ heads.needed_of (params (map parameter_of xs.now)) }
 {
     let mut found = 0;

@@ -24,11 +24,7 @@ fn member_name(alloc: Global, x: &Postfix) -> Result<Option<Text>, NoMemory>
 
 /// The name of the member directly before the part at this place.
 #[tactic(auto, using(crate::proofs::Tails::before_first, crate::proofs::Tails::before_other))]
-pub(crate) fn name_before(
-    alloc: Global,
-    parts: &[Postfix],
-    at: usize,
-) -> Result<Option<Text>, NoMemory>
+pub fn name_before(alloc: Global, parts: &[Postfix], at: usize) -> Result<Option<Text>, NoMemory>
     requires { at < length parts.now }
     ensures { IfOk result (λ name. name ≡ drafts.name_before (map postfix_of parts.now) at) }
 {
@@ -52,7 +48,7 @@ fn is_arguments(x: &Postfix) -> bool
 
 /// Whether arguments stand directly behind the part at this place, of so many parts.
 #[tactic(auto, using(crate::proofs::Tails::called_last, crate::proofs::Tails::called_other))]
-pub(crate) fn is_called(parts: &[Postfix], at: usize, count: usize) -> bool
+pub fn is_called(parts: &[Postfix], at: usize, count: usize) -> bool
     requires at { at < count }
     requires count { count ≤ length parts.now }
     ensures { result ≡ drafts.calls (drop (at + 1) (take count (map postfix_of parts.now))) }
@@ -65,7 +61,7 @@ pub(crate) fn is_called(parts: &[Postfix], at: usize, count: usize) -> bool
 }
 
 /// The instruction of a call, behind a member or behind another value.
-pub(crate) fn call_draft(name: Option<Text>, line: u32, count: usize) -> Draft
+pub fn call_draft(name: Option<Text>, line: u32, count: usize) -> Draft
     ensures { result ≡ drafts.call_draft name line count }
 {
     match name {

@@ -15,7 +15,7 @@ use chan_values::NoMemory;
 use std::alloc::Global;
 
 /// An operand of `or`, with its test and its operator.
-pub(crate) fn or_operand(code: &mut Buffer, line: u32, right: Buffer) -> Result<(), NoMemory>
+pub fn or_operand(code: &mut Buffer, line: u32, right: Buffer) -> Result<(), NoMemory>
     ensures { OnOk result (code.new ≡ drafts.tested i.OrTest line right ++ draft.Plain (i.Binary op.Or) line ∷ code.old) }
 {
     let passes = sum(right.len(), 1)?;
@@ -25,7 +25,7 @@ pub(crate) fn or_operand(code: &mut Buffer, line: u32, right: Buffer) -> Result<
 }
 
 /// An operand of `and`, with its test and its operator.
-pub(crate) fn and_operand(code: &mut Buffer, line: u32, right: Buffer) -> Result<(), NoMemory>
+pub fn and_operand(code: &mut Buffer, line: u32, right: Buffer) -> Result<(), NoMemory>
     ensures { OnOk result (code.new ≡ drafts.tested i.AndTest line right ++ draft.Plain (i.Binary op.And) line ∷ code.old) }
 {
     let passes = sum(right.len(), 1)?;
@@ -35,7 +35,7 @@ pub(crate) fn and_operand(code: &mut Buffer, line: u32, right: Buffer) -> Result
 }
 
 /// The blocks of an `if` in front of what follows where it isn't taken.
-pub(crate) fn arm_blocks(chain: &mut Buffer, line: u32, block: Buffer) -> Result<(), NoMemory>
+pub fn arm_blocks(chain: &mut Buffer, line: u32, block: Buffer) -> Result<(), NoMemory>
     ensures { OnOk result (chain.new ≡ drafts.if_code line block chain.old) }
 {
     let passes = sum(block.len(), 1)?;
@@ -46,12 +46,7 @@ pub(crate) fn arm_blocks(chain: &mut Buffer, line: u32, block: Buffer) -> Result
 }
 
 /// A `while` loop.
-pub(crate) fn while_loop(
-    code: &mut Buffer,
-    line: u32,
-    test: Buffer,
-    body: Buffer,
-) -> Result<(), NoMemory>
+pub fn while_loop(code: &mut Buffer, line: u32, test: Buffer, body: Buffer) -> Result<(), NoMemory>
     ensures { OnOk result (code.new ≡ drafts.while_code line test body ++ code.old) }
 {
     let passes = sum(body.len(), 1)?;
@@ -64,7 +59,7 @@ pub(crate) fn while_loop(
 }
 
 /// A `for` loop behind its operands, which are three with a step.
-pub(crate) fn for_loop(
+pub fn for_loop(
     alloc: Global,
     code: &mut Buffer,
     line: u32,
@@ -86,7 +81,7 @@ pub(crate) fn for_loop(
 }
 
 /// A `for each` loop behind its operand.
-pub(crate) fn each_loop(
+pub fn each_loop(
     alloc: Global,
     code: &mut Buffer,
     line: u32,

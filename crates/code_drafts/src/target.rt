@@ -11,7 +11,7 @@ use std::alloc::Global;
 
 /// The instruction that sets a target.
 #[tactic(auto, using(crate::proofs::Targets::set_name, crate::proofs::Targets::set_member, crate::proofs::Targets::set_index, crate::proofs::Targets::set_arguments))]
-pub(crate) fn set_draft(alloc: Global, name: &Name, more: &[Postfix]) -> Result<Draft, NoMemory>
+pub fn set_draft(alloc: Global, name: &Name, more: &[Postfix]) -> Result<Draft, NoMemory>
     ensures { IfOk result (λ d. d ≡ statements.set_of name.now more.now) }
 {
     if more.len() == 0 {
@@ -26,7 +26,7 @@ pub(crate) fn set_draft(alloc: Global, name: &Name, more: &[Postfix]) -> Result<
 
 /// The instruction that reads a target and keeps its operands.
 #[tactic(auto, using(crate::proofs::Targets::keep_name, crate::proofs::Targets::keep_member, crate::proofs::Targets::keep_index, crate::proofs::Targets::keep_arguments))]
-pub(crate) fn keep_draft(alloc: Global, name: &Name, more: &[Postfix]) -> Result<Draft, NoMemory>
+pub fn keep_draft(alloc: Global, name: &Name, more: &[Postfix]) -> Result<Draft, NoMemory>
     ensures { IfOk result (λ d. d ≡ statements.keep_of name.now more.now) }
 {
     if more.len() == 0 {

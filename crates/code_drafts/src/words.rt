@@ -20,7 +20,7 @@ use chan_values::{NoMemory, Text};
 use std::alloc::Global;
 
 /// The sum of two numbers of instructions. One that is too large for a machine word is too large for memory.
-pub(crate) fn sum(a: usize, b: usize) -> Result<usize, NoMemory>
+pub fn sum(a: usize, b: usize) -> Result<usize, NoMemory>
     ensures { IfOk result (λ n. n ≡ a + b) }
 {
     match a.checked_add(b) {
@@ -29,7 +29,7 @@ pub(crate) fn sum(a: usize, b: usize) -> Result<usize, NoMemory>
     }
 }
 
-pub(crate) fn comparison_operator(sign: ComparisonSign) -> Operator
+pub fn comparison_operator(sign: ComparisonSign) -> Operator
     ensures { result ≡ heads.comparison_operator sign }
 {
     match sign {
@@ -42,7 +42,7 @@ pub(crate) fn comparison_operator(sign: ComparisonSign) -> Operator
     }
 }
 
-pub(crate) fn shift_operator(sign: ShiftSign) -> Operator
+pub fn shift_operator(sign: ShiftSign) -> Operator
     ensures { result ≡ heads.shift_operator sign }
 {
     match sign {
@@ -51,7 +51,7 @@ pub(crate) fn shift_operator(sign: ShiftSign) -> Operator
     }
 }
 
-pub(crate) fn sum_operator(sign: SumSign) -> Operator
+pub fn sum_operator(sign: SumSign) -> Operator
     ensures { result ≡ heads.sum_operator sign }
 {
     match sign {
@@ -60,7 +60,7 @@ pub(crate) fn sum_operator(sign: SumSign) -> Operator
     }
 }
 
-pub(crate) fn product_operator(sign: ProductSign) -> Operator
+pub fn product_operator(sign: ProductSign) -> Operator
     ensures { result ≡ heads.product_operator sign }
 {
     match sign {
@@ -70,7 +70,7 @@ pub(crate) fn product_operator(sign: ProductSign) -> Operator
     }
 }
 
-pub(crate) fn update_operator(sign: UpdateSign) -> Operator
+pub fn update_operator(sign: UpdateSign) -> Operator
     ensures { result ≡ heads.update_operator sign }
 {
     match sign {
@@ -82,7 +82,7 @@ pub(crate) fn update_operator(sign: UpdateSign) -> Operator
 }
 
 /// `++` adds, and `--` subtracts.
-pub(crate) fn count_operator(sign: CountSign) -> Operator
+pub fn count_operator(sign: CountSign) -> Operator
     ensures { result ≡ heads.update_operator (view.counted sign) }
 {
     match sign {
@@ -94,7 +94,7 @@ pub(crate) fn count_operator(sign: CountSign) -> Operator
 /// What a type takes.
 ///
 /// Source: BrightScript Language Reference, "Types".
-pub(crate) fn value_type(word: Option<TypeWord>) -> ValueType
+pub fn value_type(word: Option<TypeWord>) -> ValueType
     ensures { result ≡ heads.value_type word }
 {
     match word {
@@ -111,7 +111,7 @@ pub(crate) fn value_type(word: Option<TypeWord>) -> ValueType
     }
 }
 
-pub(crate) fn number_instr(number: &[u8]) -> Instr
+pub fn number_instr(number: &[u8]) -> Instr
     ensures { result ≡ heads.number_instr (words.number_of number.now) }
 {
     match number_of(number) {
@@ -121,7 +121,7 @@ pub(crate) fn number_instr(number: &[u8]) -> Instr
 }
 
 /// The read of a variable, or of `m`.
-pub(crate) fn name_draft(alloc: Global, name: &Name, line: u32) -> Result<Draft, NoMemory>
+pub fn name_draft(alloc: Global, name: &Name, line: u32) -> Result<Draft, NoMemory>
     ensures { IfOk result (λ d. d ≡ drafts.name_draft (folded name.now.text) line) }
 {
     let folded = folded_bytes(alloc, name.text.as_slice())?;
@@ -133,19 +133,14 @@ pub(crate) fn name_draft(alloc: Global, name: &Name, line: u32) -> Result<Draft,
 }
 
 /// An instruction that names a variable.
-pub(crate) fn slot_draft(
-    alloc: Global,
-    instr: Instr,
-    line: u32,
-    name: &Name,
-) -> Result<Draft, NoMemory>
+pub fn slot_draft(alloc: Global, instr: Instr, line: u32, name: &Name) -> Result<Draft, NoMemory>
     ensures { IfOk result (λ d. d ≡ draft.Slot instr line (folded name.now.text)) }
 {
     Ok(Draft::Slot(instr, line, folded_bytes(alloc, name.text.as_slice())?))
 }
 
 /// The folded name of a member.
-pub(crate) fn member_text(alloc: Global, name: &Name) -> Result<Text, NoMemory>
+pub fn member_text(alloc: Global, name: &Name) -> Result<Text, NoMemory>
     ensures { IfOk result (λ t. t ≡ readable (folded name.now.text)) }
 {
     let folded = folded_bytes(alloc, name.text.as_slice())?;
@@ -153,19 +148,14 @@ pub(crate) fn member_text(alloc: Global, name: &Name) -> Result<Text, NoMemory>
 }
 
 /// An instruction that names a member.
-pub(crate) fn word_draft(
-    alloc: Global,
-    instr: Instr,
-    line: u32,
-    name: &Name,
-) -> Result<Draft, NoMemory>
+pub fn word_draft(alloc: Global, instr: Instr, line: u32, name: &Name) -> Result<Draft, NoMemory>
     ensures { IfOk result (λ d. d ≡ draft.Word instr line (readable (folded name.now.text))) }
 {
     Ok(Draft::Word(instr, line, member_text(alloc, name)?))
 }
 
 /// The folded key of a pair.
-pub(crate) fn key_word(alloc: Global, key: &Key) -> Result<Text, NoMemory>
+pub fn key_word(alloc: Global, key: &Key) -> Result<Text, NoMemory>
     ensures { IfOk result (λ t. t ≡ key_of (form_key key.now)) }
 {
     match key {
