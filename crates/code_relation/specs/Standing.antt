@@ -6,7 +6,10 @@ use Rattle.brs_grammar.specs.declared.tree.LoopKind.{LoopKind}
 use Rattle.brs_grammar.specs.declared.tree.TypeWord.{TypeWord}
 use Rattle.brs_grammar.specs.Form as g
 use Rattle.brs_grammar.specs.Form.{Text, Head, Form, Node, Forms, none, more, Params, unnamed, required, optional, Doing, Todo, finish, first}
-use Rattle.brs_grammar.specs.Parts.{Callee}
+use Rattle.brs_grammar.specs.declared.tree.FileTree.{FileTree}
+use Rattle.brs_grammar.specs.declared.tree.NamedFunction.{NamedFunction}
+use Rattle.brs_grammar.specs.View.{Callee, named_of}
+use Rattle.brs_code.specs.declared.code.Code.{Code}
 use Rattle.brs_forms.specs.Words.{readable, text_of, key_of, is_m}
 use Rattle.brs_code.specs.declared.instr.Instr.{Instr}
 use Rattle.brs_code.specs.declared.instr.Instr.TheVariants as i
@@ -175,3 +178,13 @@ abbrev pub FunctionsAt : List FunctionForm → List Function → List FunctionFo
 FunctionsAt fs [] [] = Unit {0}
 FunctionsAt fs (c ∷ cs) (x ∷ xs) = FunctionAt fs c x × FunctionsAt fs cs xs
 FunctionsAt fs _ _ = ⊥
+
+-- a named function as a form
+abbrev pub named_form : NamedFunction → FunctionForm
+named_form x = let n = named_of x in record { line = n.place.line; callee = n.callee }
+
+-- The code of a file stands to its tree: its named functions in their order, and somewhere each anonymous function that they name.
+pub record CodeAt (code : Code) (tree : FileTree) : Type 0 where
+  pub functions : List FunctionForm
+  pub named : FunctionsAt functions code.named (map named_form tree.functions)
+  pub anonymous : FunctionsAt functions code.anonymous functions
