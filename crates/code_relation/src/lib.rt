@@ -1,0 +1,6 @@
+//! How the code of functions stands to the forms of a tree.
+#![tactic(auto)]
+
+mod exits;
+
+pub use exits::Exits;
