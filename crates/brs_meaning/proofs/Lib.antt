@@ -1,0 +1,3 @@
+mod SameStep
+mod Keeps
+mod Examples
