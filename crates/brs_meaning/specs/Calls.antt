@@ -62,7 +62,7 @@ object_called s x object k arguments store = method_call x None k arguments stor
 abbrev pub member_call : Setting → (x : StoreValue) → Text → (arguments : List StoreValue) → Store → Given
 member_call s (Scalar Invalid) k arguments store = Fails E7
 member_call s (Scalar (Node n)) k arguments store = node_called (node_method_named k) n arguments store
-member_call s (Scalar (Port p)) k arguments store = port_call k p arguments store
+member_call s (Scalar (Port p)) k arguments store = port_call k p arguments
 member_call s (Scalar Screen) k arguments store = screen_call k arguments store
 member_call s (Reference n) k arguments store = object_called s (Reference n) (slice_get store n) k arguments store
 member_call s x k arguments store = method_call x None k arguments store

@@ -9,6 +9,7 @@ pub mod Leaving
 pub mod Running
 pub mod Moving
 pub mod Given
+pub mod Taking
 pub mod Names
 pub mod MethodNames
 pub mod NodeCalls
@@ -26,3 +27,5 @@ pub mod Answering
 pub mod Plain
 pub mod Held
 pub mod Runs
+pub mod Nodes
+pub mod NodeLaws

@@ -56,8 +56,13 @@ leave kind v at below store = left (leaving store v) at below store
 abbrev pub with_locals : Call → Locals → Call
 with_locals call locals = record call { locals = locals }
 
+-- each call has a home of its actor
+abbrev pub or_none : Option Home → Home
+or_none (Some home) = home
+or_none None = record { scope = 0; m = Scalar Invalid }
+
 abbrev pub home_of : List Home → ℕ → Home
-home_of homes n = elim (slice_get homes n) [ Some h ↦ h | None ↦ record { scope = 0; m = Scalar Invalid } ]
+home_of homes n = or_none (slice_get homes n)
 
 abbrev pub setting_of : Program → (actor : ℕ) → List Home → Call → Setting
 setting_of p actor homes call =

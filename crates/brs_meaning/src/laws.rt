@@ -1,4 +1,5 @@
 //! Laws of the step of an actor.
+ghost use Rattle.brs_meaning.specs.NodeLaws.{StepNames, AnswerNames, CallOnTopNames};
 ghost use Rattle.brs_meaning.specs.Held.{SameStep, NoStep, StepKeeps, ReceivedIn, ReceivedAtEnd, RepliesKeep, PutsKeep};
 
 /// The step at the place where the calls of an actor are held is the step of the whole syntax tree, which replaces the leftmost
@@ -27,4 +28,11 @@ pub fn answers_stand_where_they_were_asked_for()
 pub fn answers_and_calls_keep_trees()
     ensures answers { RepliesKeep }
     ensures calls { PutsKeep }
+{}
+
+/// An actor comes to name a node only by an answer, by a call that is put on top, or because it asks for the global node.
+pub fn nodes_come_from_outside()
+    ensures step { StepNames }
+    ensures answer { AnswerNames }
+    ensures call { CallOnTopNames }
 {}
