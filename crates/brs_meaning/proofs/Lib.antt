@@ -6,3 +6,4 @@ mod NodesOfValues
 mod NodesOfOperations
 mod NodesOfHeads
 mod NodesOfSteps
+mod CallExamples
