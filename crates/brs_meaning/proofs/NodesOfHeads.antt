@@ -27,7 +27,8 @@ use Rattle.brs_meaning.specs.Operators.{comparison, shift, sum, product}
 use Rattle.object_operations.specs.Answer as a
 use Rattle.object_operations.specs.Answer.{Answer}
 use Rattle.object_operations.specs.Arrays.{array_row}
-use Rattle.object_operations.specs.Maps.{map_row}
+use Rattle.object_operations.specs.Maps.{map_row, append_keys_row, keys_row}
+use Rattle.object_operations.specs.Receivers.{on_map}
 use Rattle.object_operations.specs.Members.{read_member_row, write_member_row, read_index_row, write_index_row}
 use Rattle.object_operations.specs.Messages.{message_row}
 use Rattle.object_operations.specs.Types.{type_row}
@@ -55,14 +56,14 @@ use Rattle.brs_meaning.specs.Names.{function_named, name_value, found, named}
 use Rattle.brs_meaning.specs.NodeCalls.{asked, asked_with, called_func, node_call}
 use Rattle.brs_meaning.specs.WorldCalls.{port_call, screen_call, screen_made, object_made, create_object, wait}
 use Rattle.brs_meaning.specs.MethodNames.{array_method_named, map_method_named, message_method_named, node_method_named}
-use Rattle.brs_meaning.specs.Methods.{array_called, map_called, data_of, told, message_called, plain_called, object_method_called, method_call}
+use Rattle.brs_meaning.specs.Methods.{array_called, other_map_called, map_called, data_of, told, message_called, plain_called, object_method_called, method_call}
 use Rattle.brs_meaning.specs.Members.{member_read, node_index_read, index_read, field_set, member_written, node_index_written, index_written, target_read, target_written}
 use Rattle.brs_meaning.specs.Calls.{plain_call, built_in_call, called, call, node_called, key_called, object_called, member_call}
 use Rattle.brs_meaning.specs.Heads.{binary, unary, entries, called_with, member_called_with, member_of, index_of, contract}
 use Rattle.brs_meaning.specs.Nodes.{Each, IfSome, TreeNames, ValueNames, EntriesName, ObjectNames, StoreNames, MessageNames, LocalsName, AccessNames, RequestNames}
 use Rattle.brs_meaning.proofs.EachLaws.{each_append, each_reverse, each_get}
 use Rattle.brs_meaning.proofs.NodesOfValues.{left_names, all_left_names, laid_names, with_tree_names}
-use Rattle.brs_meaning.proofs.NodesOfOperations.{AnswerNames, outcome_names, object_names, at_key_names, with_key_names, array_names, map_names, message_names, read_member_names, read_index_names, write_member_names, write_index_names}
+use Rattle.brs_meaning.proofs.NodesOfOperations.{AnswerNames, outcome_names, object_names, at_key_names, with_key_names, array_names, map_names, map_append_names, map_keys_names, message_names, read_member_names, read_index_names, write_member_names, write_index_names}
 
 module _ (S : ℕ → Type 0) where
   abbrev pub GivenNames : Given → Type 0
@@ -233,10 +234,16 @@ module _ (S : ℕ → Type 0) where
   array_called_names None v vs store h s = tt
   array_called_names (Some method) v vs store h s = answered_names (array_row method (v ∷ vs) store) (array_names S method (v ∷ vs) store h s)
 
-  map_called_names : (x : Option MapMethod) (v : StoreValue) (held : Option StoreValue) (vs : List StoreValue) (store : Store) → Each (ValueNames S) (v ∷ vs) → StoreNames S store → GivenNames (map_called x v held vs store)
-  map_called_names (Some method) v held vs store h s = answered_names (map_row method (v ∷ vs) store) (map_names S method (v ∷ vs) store h s)
-  map_called_names None v None vs store h s = tt
-  map_called_names None v (Some w) vs store h s = tt
+  other_map_names : (x : Option MapMethod) (v : StoreValue) (held : Option StoreValue) (vs : List StoreValue) (store : Store) → Each (ValueNames S) (v ∷ vs) → StoreNames S store → GivenNames (other_map_called x v held vs store)
+  other_map_names (Some method) v held vs store h s = answered_names (map_row method (v ∷ vs) store) (map_names S method (v ∷ vs) store h s)
+  other_map_names None v None vs store h s = tt
+  other_map_names None v (Some w) vs store h s = tt
+
+  map_called_names : (k : Text) (i : ℕ) (held : Option StoreValue) (vs : List StoreValue) (store : Store) → Each (ValueNames S) vs → StoreNames S store → GivenNames (map_called k (Reference i) held vs store)
+  map_called_names k i held vs store h s =
+      either (bytes_eq k (codes "append")) (answered (on_map append_keys_row (Reference i ∷ vs) store)) _ (answered_names (on_map append_keys_row (Reference i ∷ vs) store) (map_append_names S i vs store s))
+      (either (bytes_eq k (codes "keys")) (answered (on_map keys_row (Reference i ∷ vs) store)) (other_map_called (map_method_named k) (Reference i) held vs store) (answered_names (on_map keys_row (Reference i ∷ vs) store) (map_keys_names S i vs store s))
+      (other_map_names (map_method_named k) (Reference i) held vs store (tt, h) s))
 
   data_names : (message : Message) (vs : List StoreValue) (store : Store) → MessageNames S message → StoreNames S store → GivenNames (data_of message vs store)
   data_names message [] store (q, h) s = (laid_names S (length store) (tree_of message.payload) h, with_tree_names S store (tree_of message.payload) s h)
@@ -253,7 +260,7 @@ module _ (S : ℕ → Type 0) where
   object_method_names : (o : Option Object) (i : ℕ) (held : Option StoreValue) (k : Text) (vs : List StoreValue) (store : Store) → IfSome (ObjectNames S) o → Each (ValueNames S) vs → StoreNames S store → GivenNames (object_method_called o (Reference i) held k vs store)
   object_method_names None i held k vs store q h s = tt
   object_method_names (Some (ArrayObject items)) i held k vs store q h s = array_called_names (array_method_named k) (Reference i) vs store (tt, h) s
-  object_method_names (Some (MapObject es)) i held k vs store q h s = map_called_names (map_method_named k) (Reference i) held vs store (tt, h) s
+  object_method_names (Some (MapObject es)) i held k vs store q h s = map_called_names k i held vs store h s
   object_method_names (Some (MessageObject message)) i held k vs store q h s =
       either (bytes_eq k (codes "getdata")) (data_of message vs store) (told (message_method_named k) (Reference i) vs store) (data_names message vs store q s) (told_names (message_method_named k) i vs store s)
 

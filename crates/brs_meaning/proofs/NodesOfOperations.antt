@@ -5,7 +5,8 @@ use Rattle.std.specs.List.{remove}
 use Rattle.std.specs.Str.{bytes_eq}
 use Rattle.chan_values.specs.Folded.{folded}
 use Rattle.chan_values.specs.declared.message.Message.{Message}
-use Rattle.chan_values.specs.declared.error_code.ErrorCode.TheVariants.{E12}
+use Rattle.chan_values.specs.declared.error_code.ErrorCode.{ErrorCode}
+use Rattle.chan_values.specs.declared.error_code.ErrorCode.TheVariants.{E2, E4, E12}
 use Rattle.heap_meaning.specs.declared.plain.Plain as pl
 use Rattle.heap_meaning.specs.declared.plain.Plain.TheVariants as p
 use Rattle.heap_meaning.specs.Values.{StoreValue, Scalar, Words, Reference, Entry, filler_meant}
@@ -15,9 +16,9 @@ use Rattle.plain_operations.specs.Outcome as o
 use Rattle.plain_operations.specs.Outcome.{Outcome}
 use Rattle.object_operations.specs.Answer as a
 use Rattle.object_operations.specs.Answer.{Answer, Gives, Raises, or_invalid, with_items, with_entries, if_room, number_in, text_of, items_of, entries_of, items_of_object, entries_of_object, item_at}
-use Rattle.object_operations.specs.Receivers.{ArrayRow, MapRow, MessageRow, on_array_object, on_array, on_map_object, on_map, on_message_object, on_message}
+use Rattle.object_operations.specs.Receivers.{no_member, ArrayRow, MapRow, MessageRow, on_array_object, on_array, on_map_object, on_map, on_message_object, on_message}
 use Rattle.object_operations.specs.Arrays.{took, taken, removed, deleted, appended, bare_array_row, array_row_with, method_of_array, array_row}
-use Rattle.object_operations.specs.Maps.{put_at, put_row, looked_up, existing, removed_key, deleted_row, joined, joined_row, bare_map_row, map_row_with, map_row_with_two, method_of_map, map_row, new_keys, is_some}
+use Rattle.object_operations.specs.Maps.{put_at, put_row, looked_up, existing, removed_key, deleted_row, joined, joined_row, append_keys_row, keys_row, bare_map_row, map_row_with, map_row_with_two, method_of_map, map_row, new_keys}
 use Rattle.object_operations.specs.Members.{member_read, read_member_row, member_written, write_member_row, item_read, index_read, read_index_row, item_written, index_written, write_index_row}
 use Rattle.object_operations.specs.Messages.{told, method_of_message, message_row}
 use Rattle.object_operations.specs.declared.array_method.ArrayMethod.{ArrayMethod}
@@ -152,16 +153,19 @@ module _ (S : ℕ → Type 0) where
   method_of_array_names method n items (v ∷ []) store h (p, k) s = array_with_names method n items v store h p s
   method_of_array_names method n items (v ∷ w ∷ vs) store h k s = tt
 
+  no_member_names : (plain : pl.Plain) (e : ErrorCode) → AnswerNames (no_member plain e)
+  no_member_names p.Invalid e = tt
+  no_member_names (p.Truth b) e = tt
+  no_member_names (p.Small n) e = tt
+  no_member_names (p.Big n) e = tt
+  no_member_names (p.Function n) e = tt
+  no_member_names (p.Node n) e = tt
+  no_member_names (p.Port n) e = tt
+  no_member_names p.Screen e = tt
+
   pub array_names : (method : ArrayMethod) (arguments : List StoreValue) (store : Store) → Each (ValueNames S) arguments → StoreNames S store → AnswerNames (array_row method arguments store)
   array_names method [] store h s = tt
-  array_names method (Scalar p.Invalid ∷ vs) store h s = tt
-  array_names method (Scalar (p.Truth b) ∷ vs) store h s = tt
-  array_names method (Scalar (p.Small n) ∷ vs) store h s = tt
-  array_names method (Scalar (p.Big n) ∷ vs) store h s = tt
-  array_names method (Scalar (p.Function n) ∷ vs) store h s = tt
-  array_names method (Scalar (p.Node n) ∷ vs) store h s = tt
-  array_names method (Scalar (p.Port n) ∷ vs) store h s = tt
-  array_names method (Scalar p.Screen ∷ vs) store h s = tt
+  array_names method (Scalar plain ∷ vs) store h s = no_member_names plain E4
   array_names method (Words bytes ∷ vs) store h s = tt
   array_names method (Reference n ∷ vs) store (q, h) s = on_object (slice_get store n) (object_names store n s)
     where
@@ -213,32 +217,26 @@ module _ (S : ℕ → Type 0) where
   bare_map_names : (method : MapMethod) (n : ℕ) (entries : List (Entry StoreValue)) (store : Store) → StoreNames S store → AnswerNames (bare_map_row method n entries store)
   bare_map_names mm.AddReplace n entries store s = tt
   bare_map_names mm.Clear n entries store s = (tt, with_entries_names n [] store tt s)
-  bare_map_names mm.Append n entries store s = tt
   bare_map_names mm.Lookup n entries store s = tt
   bare_map_names mm.DoesExist n entries store s = tt
   bare_map_names mm.Delete n entries store s = tt
   bare_map_names mm.Count n entries store s = (tt, s)
-  bare_map_names mm.Keys n entries store s = (tt, each_append (ObjectNames S) store (ArrayObject (map Words (keys_of entries)) ∷ []) s (words_names (keys_of entries), tt))
 
   map_with_names : (method : MapMethod) (n : ℕ) (entries : List (Entry StoreValue)) (v : StoreValue) (store : Store) → EntriesName S entries → ValueNames S v → StoreNames S store → AnswerNames (map_row_with method n entries v store)
   map_with_names mm.AddReplace n entries v store h p s = tt
   map_with_names mm.Clear n entries v store h p s = tt
-  map_with_names mm.Append n entries v store h p s = joined_row_names n entries (entries_of v store) store h (entries_of_names v store s) s
   map_with_names mm.Lookup n entries v store h p s = looked_names entries (text_of v) store h s
   map_with_names mm.DoesExist n entries v store h p s = existing_names entries (text_of v) store s
   map_with_names mm.Delete n entries v store h p s = deleted_key_names n entries (text_of v) store h s
   map_with_names mm.Count n entries v store h p s = tt
-  map_with_names mm.Keys n entries v store h p s = tt
 
   map_with_two_names : (method : MapMethod) (n : ℕ) (entries : List (Entry StoreValue)) (k v : StoreValue) (store : Store) → EntriesName S entries → ValueNames S v → StoreNames S store → AnswerNames (map_row_with_two method n entries k v store)
   map_with_two_names mm.AddReplace n entries k v store h p s = put_names n entries (text_of k) v store h p s
   map_with_two_names mm.Clear n entries k v store h p s = tt
-  map_with_two_names mm.Append n entries k v store h p s = tt
   map_with_two_names mm.Lookup n entries k v store h p s = tt
   map_with_two_names mm.DoesExist n entries k v store h p s = tt
   map_with_two_names mm.Delete n entries k v store h p s = tt
   map_with_two_names mm.Count n entries k v store h p s = tt
-  map_with_two_names mm.Keys n entries k v store h p s = tt
 
   method_of_map_names : (method : MapMethod) (n : ℕ) (entries : List (Entry StoreValue)) (arguments : List StoreValue) (store : Store) → EntriesName S entries → Each (ValueNames S) arguments → StoreNames S store → AnswerNames (method_of_map method n entries arguments store)
   method_of_map_names method n entries [] store h k s = bare_map_names method n entries store s
@@ -248,14 +246,7 @@ module _ (S : ℕ → Type 0) where
 
   pub map_names : (method : MapMethod) (arguments : List StoreValue) (store : Store) → Each (ValueNames S) arguments → StoreNames S store → AnswerNames (map_row method arguments store)
   map_names method [] store h s = tt
-  map_names method (Scalar p.Invalid ∷ vs) store h s = tt
-  map_names method (Scalar (p.Truth b) ∷ vs) store h s = tt
-  map_names method (Scalar (p.Small n) ∷ vs) store h s = tt
-  map_names method (Scalar (p.Big n) ∷ vs) store h s = tt
-  map_names method (Scalar (p.Function n) ∷ vs) store h s = tt
-  map_names method (Scalar (p.Node n) ∷ vs) store h s = tt
-  map_names method (Scalar (p.Port n) ∷ vs) store h s = tt
-  map_names method (Scalar p.Screen ∷ vs) store h s = tt
+  map_names method (Scalar plain ∷ vs) store h s = no_member_names plain E4
   map_names method (Words bytes ∷ vs) store h s = tt
   map_names method (Reference n ∷ vs) store (q, h) s = on_object (slice_get store n) (object_names store n s)
     where
@@ -264,6 +255,30 @@ module _ (S : ℕ → Type 0) where
       on_object (Some (ArrayObject items)) k = tt
       on_object (Some (MapObject entries)) k = method_of_map_names method n entries vs store k h s
       on_object (Some (MessageObject message)) k = tt
+
+  append_keys_names : (n : ℕ) (entries : List (Entry StoreValue)) (arguments : List StoreValue) (store : Store) → EntriesName S entries → StoreNames S store → AnswerNames (append_keys_row n entries arguments store)
+  append_keys_names n entries [] store h s = tt
+  append_keys_names n entries (v ∷ []) store h s = joined_row_names n entries (entries_of v store) store h (entries_of_names v store s) s
+  append_keys_names n entries (v ∷ w ∷ vs) store h s = tt
+
+  keys_names : (n : ℕ) (entries : List (Entry StoreValue)) (arguments : List StoreValue) (store : Store) → StoreNames S store → AnswerNames (keys_row n entries arguments store)
+  keys_names n entries [] store s = (tt, each_append (ObjectNames S) store (ArrayObject (map Words (keys_of entries)) ∷ []) s (words_names (keys_of entries), tt))
+  keys_names n entries (v ∷ vs) store s = tt
+
+  pub on_map_names : (row : MapRow) (n : ℕ) (arguments : List StoreValue) (store : Store) → ((entries : List (Entry StoreValue)) → EntriesName S entries → AnswerNames (row n entries arguments store)) → StoreNames S store → AnswerNames (on_map row (Reference n ∷ arguments) store)
+  on_map_names row n vs store f s = on_object (slice_get store n) (object_names store n s)
+    where
+      on_object : (x : Option Object) → IfSome (ObjectNames S) x → AnswerNames (on_map_object row n x vs store)
+      on_object None k = tt
+      on_object (Some (ArrayObject items)) k = tt
+      on_object (Some (MapObject entries)) k = f entries k
+      on_object (Some (MessageObject message)) k = tt
+
+  pub map_append_names : (n : ℕ) (arguments : List StoreValue) (store : Store) → StoreNames S store → AnswerNames (on_map append_keys_row (Reference n ∷ arguments) store)
+  map_append_names n vs store s = on_map_names append_keys_row n vs store (λ entries h. append_keys_names n entries vs store h s) s
+
+  pub map_keys_names : (n : ℕ) (arguments : List StoreValue) (store : Store) → StoreNames S store → AnswerNames (on_map keys_row (Reference n ∷ arguments) store)
+  map_keys_names n vs store s = on_map_names keys_row n vs store (λ entries h. keys_names n entries vs store s) s
 
   -- ---- messages
 
@@ -323,49 +338,21 @@ module _ (S : ℕ → Type 0) where
   index_written_names n (Some (MessageObject message)) i v store h p s = tt
 
   pub read_member_names : (x k : StoreValue) (store : Store) → StoreNames S store → AnswerNames (read_member_row (x ∷ k ∷ []) store)
-  read_member_names (Scalar p.Invalid) k store s = tt
-  read_member_names (Scalar (p.Truth b)) k store s = tt
-  read_member_names (Scalar (p.Small n)) k store s = tt
-  read_member_names (Scalar (p.Big n)) k store s = tt
-  read_member_names (Scalar (p.Function n)) k store s = tt
-  read_member_names (Scalar (p.Node n)) k store s = tt
-  read_member_names (Scalar (p.Port n)) k store s = tt
-  read_member_names (Scalar p.Screen) k store s = tt
+  read_member_names (Scalar plain) k store s = no_member_names plain E4
   read_member_names (Words bytes) k store s = tt
   read_member_names (Reference n) k store s = member_of_names (slice_get store n) k store (object_names store n s) s
 
   pub read_index_names : (x i : StoreValue) (store : Store) → StoreNames S store → AnswerNames (read_index_row (x ∷ i ∷ []) store)
-  read_index_names (Scalar p.Invalid) i store s = tt
-  read_index_names (Scalar (p.Truth b)) i store s = tt
-  read_index_names (Scalar (p.Small n)) i store s = tt
-  read_index_names (Scalar (p.Big n)) i store s = tt
-  read_index_names (Scalar (p.Function n)) i store s = tt
-  read_index_names (Scalar (p.Node n)) i store s = tt
-  read_index_names (Scalar (p.Port n)) i store s = tt
-  read_index_names (Scalar p.Screen) i store s = tt
+  read_index_names (Scalar plain) i store s = no_member_names plain E2
   read_index_names (Words bytes) i store s = tt
   read_index_names (Reference n) i store s = index_of_names (slice_get store n) i store (object_names store n s) s
 
   pub write_member_names : (x k v : StoreValue) (store : Store) → ValueNames S v → StoreNames S store → AnswerNames (write_member_row (x ∷ k ∷ v ∷ []) store)
-  write_member_names (Scalar p.Invalid) k v store h s = tt
-  write_member_names (Scalar (p.Truth b)) k v store h s = tt
-  write_member_names (Scalar (p.Small n)) k v store h s = tt
-  write_member_names (Scalar (p.Big n)) k v store h s = tt
-  write_member_names (Scalar (p.Function n)) k v store h s = tt
-  write_member_names (Scalar (p.Node n)) k v store h s = tt
-  write_member_names (Scalar (p.Port n)) k v store h s = tt
-  write_member_names (Scalar p.Screen) k v store h s = tt
+  write_member_names (Scalar plain) k v store h s = no_member_names plain E4
   write_member_names (Words bytes) k v store h s = tt
   write_member_names (Reference n) k v store h s = member_written_names n (slice_get store n) k v store (object_names store n s) h s
 
   pub write_index_names : (x i v : StoreValue) (store : Store) → ValueNames S v → StoreNames S store → AnswerNames (write_index_row (x ∷ i ∷ v ∷ []) store)
-  write_index_names (Scalar p.Invalid) i v store h s = tt
-  write_index_names (Scalar (p.Truth b)) i v store h s = tt
-  write_index_names (Scalar (p.Small n)) i v store h s = tt
-  write_index_names (Scalar (p.Big n)) i v store h s = tt
-  write_index_names (Scalar (p.Function n)) i v store h s = tt
-  write_index_names (Scalar (p.Node n)) i v store h s = tt
-  write_index_names (Scalar (p.Port n)) i v store h s = tt
-  write_index_names (Scalar p.Screen) i v store h s = tt
+  write_index_names (Scalar plain) i v store h s = no_member_names plain E2
   write_index_names (Words bytes) i v store h s = tt
   write_index_names (Reference n) i v store h s = index_written_names n (slice_get store n) i v store (object_names store n s) h s

@@ -27,12 +27,10 @@ abbrev pub map_words : List (List ℕ × MapMethod)
 map_words =
     (codes "addreplace", p.AddReplace)
     ∷ (codes "clear", p.Clear)
-    ∷ (codes "append", p.Append)
     ∷ (codes "lookup", p.Lookup)
     ∷ (codes "doesexist", p.DoesExist)
     ∷ (codes "delete", p.Delete)
     ∷ (codes "count", p.Count)
-    ∷ (codes "keys", p.Keys)
     ∷ []
 
 abbrev pub message_words : List (List ℕ × MessageMethod)

@@ -11,7 +11,8 @@ use Rattle.plain_operations.specs.Methods.{method_row}
 use Rattle.plain_operations.specs.Names as n
 use Rattle.plain_operations.specs.declared.method.PlainMethod.{PlainMethod}
 use Rattle.object_operations.specs.Arrays.{array_row}
-use Rattle.object_operations.specs.Maps.{map_row}
+use Rattle.object_operations.specs.Maps.{map_row, append_keys_row, keys_row}
+use Rattle.object_operations.specs.Receivers.{on_map}
 use Rattle.object_operations.specs.Messages.{message_row}
 use Rattle.object_operations.specs.declared.array_method.ArrayMethod.{ArrayMethod}
 use Rattle.object_operations.specs.declared.map_method.MapMethod.{MapMethod}
@@ -26,10 +27,15 @@ array_called (Some method) x arguments store = answered (array_row method (x ∷
 array_called None x arguments store = Fails E4
 
 -- what stands at the key is no function
-abbrev pub map_called : Option MapMethod → (x : StoreValue) → (at_key : Option StoreValue) → (arguments : List StoreValue) → Store → Given
-map_called (Some method) x at_key arguments store = answered (map_row method (x ∷ arguments) store)
-map_called None x (Some v) arguments store = Fails E5
-map_called None x None arguments store = Fails E4
+abbrev pub other_map_called : Option MapMethod → (x : StoreValue) → (at_key : Option StoreValue) → (arguments : List StoreValue) → Store → Given
+other_map_called (Some method) x at_key arguments store = answered (map_row method (x ∷ arguments) store)
+other_map_called None x (Some v) arguments store = Fails E5
+other_map_called None x None arguments store = Fails E4
+
+abbrev pub map_called : Text → (x : StoreValue) → (at_key : Option StoreValue) → (arguments : List StoreValue) → Store → Given
+map_called k x at_key arguments store =
+    cond (bytes_eq k (codes "append")) (answered (on_map append_keys_row (x ∷ arguments) store))
+    (cond (bytes_eq k (codes "keys")) (answered (on_map keys_row (x ∷ arguments) store)) (other_map_called (map_method_named k) x at_key arguments store))
 
 -- the payload of a message is laid down anew
 abbrev pub data_of : Message → (arguments : List StoreValue) → Store → Given
@@ -49,7 +55,7 @@ plain_called None x arguments store = Fails E4
 
 abbrev pub object_method_called : Option Object → (x : StoreValue) → (at_key : Option StoreValue) → Text → (arguments : List StoreValue) → Store → Given
 object_method_called (Some (ArrayObject items)) x at_key k arguments store = array_called (array_method_named k) x arguments store
-object_method_called (Some (MapObject entries)) x at_key k arguments store = map_called (map_method_named k) x at_key arguments store
+object_method_called (Some (MapObject entries)) x at_key k arguments store = map_called k x at_key arguments store
 object_method_called (Some (MessageObject message)) x at_key k arguments store = message_called message x k arguments store
 object_method_called None x at_key k arguments store = Fails E4
 
