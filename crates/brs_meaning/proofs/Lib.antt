@@ -1,0 +1,9 @@
+mod SameStep
+mod Keeps
+mod Examples
+mod EachLaws
+mod NodesOfValues
+mod NodesOfOperations
+mod NodesOfHeads
+mod NodesOfSteps
+mod CallExamples
