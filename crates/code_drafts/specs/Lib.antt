@@ -1,3 +1,0 @@
-pub mod DraftCode
-pub mod TreeCode
-pub mod StatementCode
