@@ -29,7 +29,7 @@ pub record FunctionForm : Type 0 where
 
 -- this instruction stands there, with this line
 abbrev pub Has : Function → ℕ → Instr → ℕ → Type 0
-Has f p i line = slice_get f.code p ≡ Some (record { instr = i; line = line })
+Has f p i line = (operands : ℕ) × (slice_get f.code p ≡ Some (record { instr = i; line = line; operands = operands }))
 
 -- an instruction with k operands, and the place behind it
 pub record InstrAt (f : Function) (p : ℕ) (instr : Instr) (line k q : ℕ) : Type 0 where
