@@ -57,18 +57,30 @@ main_of body = record { file = 0; path = 1; heading = record { line = 1; column 
 
 -- function add(n as integer, k = 2) as integer, return n + k
 abbrev add : Function
-add = record { file = 0; path = 1; heading = record { line = 9; column = 1 };
-    callee = record { params = required here (codes "n") (Some w.Integer) (optional here (codes "k") None (number (codes "2")) unnamed); value = Some w.Integer; body = return (two (f.Add a.Plus) (name (codes "n")) (name (codes "k"))) } }
+add = record {
+  file = 0;
+  path = 1;
+  heading = record { line = 9; column = 1 };
+  callee = record { params = required here (codes "n") (Some w.Integer) (optional here (codes "k") None (number (codes "2")) unnamed); value = Some w.Integer; body = return (two (f.Add a.Plus) (name (codes "n")) (name (codes "k"))) };
+}
 
 -- function who(), return m.x
 abbrev who : Function
-who = record { file = 0; path = 1; heading = record { line = 12; column = 1 };
-    callee = record { params = unnamed; value = None; body = return (Node (f.Member (codes "x")) here (more (name (codes "m")) none)) } }
+who = record {
+  file = 0;
+  path = 1;
+  heading = record { line = 12; column = 1 };
+  callee = record { params = unnamed; value = None; body = return (Node (f.Member (codes "x")) here (more (name (codes "m")) none)) };
+}
 
 -- function again(), return again()
 abbrev again : Function
-again = record { file = 0; path = 1; heading = record { line = 15; column = 1 };
-    callee = record { params = unnamed; value = None; body = return (Node f.Call here (more (name (codes "again")) none)) } }
+again = record {
+  file = 0;
+  path = 1;
+  heading = record { line = 15; column = 1 };
+  callee = record { params = unnamed; value = None; body = return (Node f.Call here (more (name (codes "again")) none)) };
+}
 
 abbrev function_of : ℕ → Option Function
 function_of zero = Some add
@@ -83,8 +95,13 @@ abbrev built_in_number_of : Text → Option ℕ
 built_in_number_of x = cond (bytes_eq x (codes "wait")) (Some 16) (cond (bytes_eq x (codes "createobject")) (Some 17) None)
 
 abbrev three_functions : Program
-three_functions = record { function = function_of; built_in = built_in_of; anonymous = λ n at. 0; built_in_number = built_in_number_of;
-    scopes = (record { key = codes "add"; value = 0 } ∷ record { key = codes "who"; value = 1 } ∷ record { key = codes "again"; value = 2 } ∷ []) ∷ [] }
+three_functions = record {
+  function = function_of;
+  built_in = built_in_of;
+  anonymous = λ n at. 0;
+  built_in_number = built_in_number_of;
+  scopes = (record { key = codes "add"; value = 0 } ∷ record { key = codes "who"; value = 1 } ∷ record { key = codes "again"; value = 2 } ∷ []) ∷ [];
+}
 
 abbrev home : Home
 home = record { scope = 0; m = Reference 0 }
