@@ -3,29 +3,25 @@ use lib.Utf8.{encode}
 use Rattle.std.specs.Str.{chars, is_utf8}
 use Rattle.std.specs.Fmt.{digits}
 use Rattle.std.specs.Int.{int_wrap}
-use Rattle.copy_meaning.specs.Answers.{unfolded}
-use Rattle.std.specs.Prelude.{◌≡◌, ℕ, zero, suc, true, false, List, [], ◌∷◌, Option, Some, None, cond, ◌==◌, codes, pos}
+use Rattle.std.specs.Prelude.{◌≡◌, ℕ, zero, suc, List, [], ◌∷◌, Option, Some, None, cond, ◌==◌, codes}
 use Rattle.std.specs.Str.{bytes_eq}
 use Rattle.std.proofs.Common.{refl}
 use Rattle.brs_tokens.specs.declared.place.Place as t
 use Rattle.chan_values.specs.declared.place.Place as c
-use Rattle.chan_values.specs.declared.error_code.ErrorCode.TheVariants.{E1, E2, E5, E6, E8, E9, E10}
-use Rattle.chan_values.specs.Tree as v
-use Rattle.heap_meaning.specs.declared.plain.Plain.TheVariants as pl
-use Rattle.heap_meaning.specs.Values.{StoreValue, Scalar, Reference}
-use Rattle.heap_meaning.specs.Store.{MapObject, Store}
+use Rattle.chan_values.specs.declared.error_code.ErrorCode.TheVariants.{E2, E5, E6, E8}
+use Rattle.heap_meaning.specs.Values.{Reference}
+use Rattle.heap_meaning.specs.Store.{MapObject}
 use Rattle.brs_grammar.specs.declared.tree.SumSign.TheVariants as a
 use Rattle.brs_grammar.specs.declared.tree.TypeWord.TheVariants as w
 use Rattle.brs_grammar.specs.Form as f
 use Rattle.brs_grammar.specs.Form.{Text, Head, Form, Node, Forms, none, more, Params, unnamed, required, optional, Doing, Todo, finish, first}
-use Rattle.brs_grammar.specs.Parts.{Callee, forms}
+use Rattle.brs_grammar.specs.Parts.{forms}
 use Rattle.brs_meaning.specs.Program.{Program, Function}
 use Rattle.brs_meaning.specs.Locals.{Home}
-use Rattle.brs_meaning.specs.Request.{Asks, Get, Set, MakePort, Wait}
-use Rattle.brs_meaning.specs.Running.{Kind, OnTop, Call, before, Tree, Works, Waits}
+use Rattle.brs_meaning.specs.Request.{MakePort}
+use Rattle.brs_meaning.specs.Running.{OnTop, before, Tree}
 use Rattle.brs_meaning.specs.Moving.{next}
-use Rattle.brs_meaning.specs.Reduction.{Outcome, Went, Asked, Printed, Raised, Returned, TooBig, Reduced, reduce}
-use Rattle.brs_meaning.specs.Answering.{Reply, Value, Failed, replied, next_wait}
+use Rattle.brs_meaning.specs.Reduction.{Outcome, Asked, Printed, Raised}
 use Rattle.brs_meaning.specs.Runs.{outcomes}
 
 abbrev here : t.Place
@@ -57,18 +53,30 @@ main_of body = record { file = 0; path = 1; heading = record { line = 1; column 
 
 -- function add(n as integer, k = 2) as integer, return n + k
 abbrev add : Function
-add = record { file = 0; path = 1; heading = record { line = 9; column = 1 };
-    callee = record { params = required here (codes "n") (Some w.Integer) (optional here (codes "k") None (number (codes "2")) unnamed); value = Some w.Integer; body = return (two (f.Add a.Plus) (name (codes "n")) (name (codes "k"))) } }
+add = record {
+  file = 0;
+  path = 1;
+  heading = record { line = 9; column = 1 };
+  callee = record { params = required here (codes "n") (Some w.Integer) (optional here (codes "k") None (number (codes "2")) unnamed); value = Some w.Integer; body = return (two (f.Add a.Plus) (name (codes "n")) (name (codes "k"))) };
+}
 
 -- function who(), return m.x
 abbrev who : Function
-who = record { file = 0; path = 1; heading = record { line = 12; column = 1 };
-    callee = record { params = unnamed; value = None; body = return (Node (f.Member (codes "x")) here (more (name (codes "m")) none)) } }
+who = record {
+  file = 0;
+  path = 1;
+  heading = record { line = 12; column = 1 };
+  callee = record { params = unnamed; value = None; body = return (Node (f.Member (codes "x")) here (more (name (codes "m")) none)) };
+}
 
 -- function again(), return again()
 abbrev again : Function
-again = record { file = 0; path = 1; heading = record { line = 15; column = 1 };
-    callee = record { params = unnamed; value = None; body = return (Node f.Call here (more (name (codes "again")) none)) } }
+again = record {
+  file = 0;
+  path = 1;
+  heading = record { line = 15; column = 1 };
+  callee = record { params = unnamed; value = None; body = return (Node f.Call here (more (name (codes "again")) none)) };
+}
 
 abbrev function_of : ℕ → Option Function
 function_of zero = Some add
@@ -83,8 +91,13 @@ abbrev built_in_number_of : Text → Option ℕ
 built_in_number_of x = cond (bytes_eq x (codes "wait")) (Some 16) (cond (bytes_eq x (codes "createobject")) (Some 17) None)
 
 abbrev three_functions : Program
-three_functions = record { function = function_of; built_in = built_in_of; anonymous = λ n at. 0; built_in_number = built_in_number_of;
-    scopes = (record { key = codes "add"; value = 0 } ∷ record { key = codes "who"; value = 1 } ∷ record { key = codes "again"; value = 2 } ∷ []) ∷ [] }
+three_functions = record {
+  function = function_of;
+  built_in = built_in_of;
+  anonymous = λ n at. 0;
+  built_in_number = built_in_number_of;
+  scopes = (record { key = codes "add"; value = 0 } ∷ record { key = codes "who"; value = 1 } ∷ record { key = codes "again"; value = 2 } ∷ []) ∷ [];
+}
 
 abbrev home : Home
 home = record { scope = 0; m = Reference 0 }
