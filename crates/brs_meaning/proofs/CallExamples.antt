@@ -3,29 +3,25 @@ use lib.Utf8.{encode}
 use Rattle.std.specs.Str.{chars, is_utf8}
 use Rattle.std.specs.Fmt.{digits}
 use Rattle.std.specs.Int.{int_wrap}
-use Rattle.copy_meaning.specs.Answers.{unfolded}
-use Rattle.std.specs.Prelude.{◌≡◌, ℕ, zero, suc, true, false, List, [], ◌∷◌, Option, Some, None, cond, ◌==◌, codes, pos}
+use Rattle.std.specs.Prelude.{◌≡◌, ℕ, zero, suc, List, [], ◌∷◌, Option, Some, None, cond, ◌==◌, codes}
 use Rattle.std.specs.Str.{bytes_eq}
 use Rattle.std.proofs.Common.{refl}
 use Rattle.brs_tokens.specs.declared.place.Place as t
 use Rattle.chan_values.specs.declared.place.Place as c
-use Rattle.chan_values.specs.declared.error_code.ErrorCode.TheVariants.{E1, E2, E5, E6, E8, E9, E10}
-use Rattle.chan_values.specs.Tree as v
-use Rattle.heap_meaning.specs.declared.plain.Plain.TheVariants as pl
-use Rattle.heap_meaning.specs.Values.{StoreValue, Scalar, Reference}
-use Rattle.heap_meaning.specs.Store.{MapObject, Store}
+use Rattle.chan_values.specs.declared.error_code.ErrorCode.TheVariants.{E2, E5, E6, E8}
+use Rattle.heap_meaning.specs.Values.{Reference}
+use Rattle.heap_meaning.specs.Store.{MapObject}
 use Rattle.brs_grammar.specs.declared.tree.SumSign.TheVariants as a
 use Rattle.brs_grammar.specs.declared.tree.TypeWord.TheVariants as w
 use Rattle.brs_grammar.specs.Form as f
 use Rattle.brs_grammar.specs.Form.{Text, Head, Form, Node, Forms, none, more, Params, unnamed, required, optional, Doing, Todo, finish, first}
-use Rattle.brs_grammar.specs.Parts.{Callee, forms}
+use Rattle.brs_grammar.specs.Parts.{forms}
 use Rattle.brs_meaning.specs.Program.{Program, Function}
 use Rattle.brs_meaning.specs.Locals.{Home}
-use Rattle.brs_meaning.specs.Request.{Asks, Get, Set, MakePort, Wait}
-use Rattle.brs_meaning.specs.Running.{Kind, OnTop, Call, before, Tree, Works, Waits}
+use Rattle.brs_meaning.specs.Request.{MakePort}
+use Rattle.brs_meaning.specs.Running.{OnTop, before, Tree}
 use Rattle.brs_meaning.specs.Moving.{next}
-use Rattle.brs_meaning.specs.Reduction.{Outcome, Went, Asked, Printed, Raised, Returned, TooBig, Reduced, reduce}
-use Rattle.brs_meaning.specs.Answering.{Reply, Value, Failed, replied, next_wait}
+use Rattle.brs_meaning.specs.Reduction.{Outcome, Asked, Printed, Raised}
 use Rattle.brs_meaning.specs.Runs.{outcomes}
 
 abbrev here : t.Place

@@ -1,8 +1,8 @@
 -- What holds of each member of a list.
 use mathlib.Core.List.{reverse_aux}
-use Rattle.std.proofs.Common.{◌≡◌, ℕ, zero, suc, ◌-◌, List, [], ◌∷◌, ◌++◌, Option, Some, None, refl}
+use Rattle.std.proofs.Common.{ℕ, zero, suc, ◌-◌, List, [], ◌∷◌, ◌++◌}
 use Rattle.std.specs.Prelude.{Bool, true, false, reverse, length, map, cond, take, drop, replicate, slice_get, slice_set, nat_lt}
-use Rattle.std.specs.List.{filter, remove, insert}
+use Rattle.std.specs.List.{filter, remove}
 use Rattle.heap_meaning.specs.Keys.{placed}
 use Rattle.brs_meaning.specs.Nodes.{Each, IfSome}
 

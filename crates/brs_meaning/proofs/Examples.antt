@@ -1,5 +1,5 @@
 -- Runs that are worked out by hand.
-use Rattle.std.specs.Prelude.{◌≡◌, ℕ, true, false, List, [], ◌∷◌, Option, Some, None, codes}
+use Rattle.std.specs.Prelude.{◌≡◌, ℕ, true, false, List, [], ◌∷◌, None, codes}
 use lib.Utf8.{encode}
 use Rattle.std.specs.Str.{chars, is_utf8}
 use Rattle.std.specs.Fmt.{digits}
@@ -7,24 +7,21 @@ use Rattle.std.specs.Int.{int_wrap}
 use Rattle.copy_meaning.specs.Answers.{unfolded}
 use Rattle.std.proofs.Common.{refl}
 use Rattle.brs_tokens.specs.declared.place.Place as t
-use Rattle.chan_values.specs.declared.place.Place as c
 use Rattle.chan_values.specs.declared.error_code.ErrorCode.TheVariants.{E1, E2, E3}
 use Rattle.chan_values.specs.Tree as v
-use Rattle.heap_meaning.specs.declared.plain.Plain.TheVariants.{Invalid}
-use Rattle.heap_meaning.specs.Values.{StoreValue, Scalar, Reference}
-use Rattle.heap_meaning.specs.Store.{MapObject, Store}
+use Rattle.heap_meaning.specs.Values.{Reference}
+use Rattle.heap_meaning.specs.Store.{MapObject}
 use Rattle.brs_grammar.specs.declared.tree.LoopKind.TheVariants as loop
 use Rattle.brs_grammar.specs.declared.tree.ProductSign.TheVariants as p
-use Rattle.brs_grammar.specs.declared.tree.SumSign.TheVariants as a
 use Rattle.brs_grammar.specs.declared.tree.UpdateSign.TheVariants as u
 use Rattle.brs_grammar.specs.Form as f
 use Rattle.brs_grammar.specs.Form.{Text, Head, Form, Node, Forms, none, more, Params, unnamed, Doing, Todo, finish, first}
-use Rattle.brs_grammar.specs.Parts.{Callee, forms}
+use Rattle.brs_grammar.specs.Parts.{forms}
 use Rattle.brs_meaning.specs.Program.{Program, Function}
 use Rattle.brs_meaning.specs.Locals.{Home}
-use Rattle.brs_meaning.specs.Running.{Kind, OnTop, Call, before, Tree}
+use Rattle.brs_meaning.specs.Running.{OnTop, before}
 use Rattle.brs_meaning.specs.Moving.{next}
-use Rattle.brs_meaning.specs.Reduction.{Outcome, Went, Printed, Raised, Returned}
+use Rattle.brs_meaning.specs.Reduction.{Outcome, Printed, Raised, Returned}
 use Rattle.brs_meaning.specs.Runs.{outcomes}
 
 -- everything on line 2, but for the heading

@@ -1,5 +1,5 @@
 -- What holds of the trees of every run is kept by each step, and by each answer and call on top.
-use Rattle.std.proofs.Common.{◌≡◌, ℕ, suc, List, [], ◌∷◌, ◌++◌, Option, Some, None, refl, sym, ap, subst, ◌∙◌}
+use Rattle.std.proofs.Common.{◌≡◌, ℕ, suc, List, [], ◌∷◌, ◌++◌, Option, Some, None, refl, sym, subst}
 use Rattle.std.specs.Prelude.{ℤ, Bool, true, false, length, reverse, cond, slice_get, nat_le}
 use Rattle.brs_tokens.specs.declared.place.Place as t
 use Rattle.chan_values.specs.declared.place.Place as c
@@ -7,18 +7,17 @@ use Rattle.chan_values.specs.declared.error_code.ErrorCode.TheVariants.{E6, E8}
 use Rattle.chan_values.specs.Tree as v
 use Rattle.heap_meaning.specs.declared.plain.Plain.TheVariants.{Invalid, Truth, Small, Big, Screen, Function as Function', Node as NodeNumber, Port as PortNumber}
 use Rattle.heap_meaning.specs.Values.{StoreValue, Scalar, Words, Reference}
-use Rattle.heap_meaning.specs.Keys.{keys_of}
 use Rattle.heap_meaning.specs.Store.{Object, ArrayObject, MapObject, MessageObject, Store}
 use Rattle.brs_grammar.specs.declared.tree.TypeWord.{TypeWord}
 use Rattle.brs_grammar.specs.declared.tree.UpdateSign.{UpdateSign}
-use Rattle.brs_grammar.specs.Form.{Text, Aim, ToName, ToMember, ToIndex, Head, Form, Node, Forms, none, more, Doing, Set, Update, Drop, Print, Return, Exit, If, While, For, ForEach, Todo}
-use Rattle.brs_meaning.specs.Program.{Program, Function, place_in}
+use Rattle.brs_grammar.specs.Form.{Text, Aim, ToName, ToMember, ToIndex, Head, Form, Node, Forms, none, more, Set, Update, Drop, Print, Return, Exit, If, While, For, ForEach, Todo}
+use Rattle.brs_meaning.specs.Program.{Function, place_in}
 use Rattle.brs_meaning.specs.Locals.{Home, Locals, local}
 use Rattle.brs_meaning.specs.Given as g
 use Rattle.brs_meaning.specs.Given.{Given, Setting}
 use Rattle.brs_meaning.specs.Did as d
 use Rattle.brs_meaning.specs.Did.{Did}
-use Rattle.brs_meaning.specs.Running.{Kind, Inner, OnTop, Call, Job, Does, Combines, Tests, Again, Compares, Increases, NextItem, NextKey, Binds, Task, before, Around, around, Under, under, Spot, AtHead, AtDecided, AtJob, AtEnd, AtFailure, Hole, Operand, Ends, Held, Tree, Works, Waits}
+use Rattle.brs_meaning.specs.Running.{Kind, Inner, OnTop, Call, Job, Does, Combines, Tests, Again, Compares, Increases, NextItem, NextKey, Binds, Task, before, Around, around, Under, under, AtHead, AtDecided, AtJob, AtEnd, AtFailure, Hole, Operand, Ends, Held, Tree, Works, Waits}
 use Rattle.brs_meaning.specs.Moving.{decides, down, begin, give_under, go_on, give, next, filled}
 use Rattle.brs_meaning.specs.Binding.{Begun, Begins, Refuses, begun, begun_with, bound, suits, defaults, most_calls}
 use Rattle.brs_meaning.specs.Heads.{binary, contract}
@@ -31,8 +30,8 @@ use Rattle.brs_meaning.specs.Printing.{Printing, Printed, Unprinted, printed}
 use Rattle.brs_meaning.specs.Members.{target_read, target_written}
 use Rattle.brs_meaning.specs.Reduction as r
 use Rattle.brs_meaning.specs.Reduction.{reduce, after_given, after_did, home_of, setting_of, own_or}
-use Rattle.brs_meaning.specs.Held.{Undecided, Settled, AllUndecided, SpotIs, HoleIs, Fits, CallsAre, IsTree, StepKeeps, RepliesKeep, PutIs, PutsKeep}
-use Rattle.brs_meaning.specs.Answering.{Reply, Value, Told, Failed, Arguments, Brought, received, replied, bring, put_with}
+use Rattle.brs_meaning.specs.Held.{Undecided, AllUndecided, SpotIs, HoleIs, CallsAre, IsTree, StepKeeps, RepliesKeep, PutIs, PutsKeep}
+use Rattle.brs_meaning.specs.Answering.{Value, Told, Failed, received, replied, bring, put_with}
 use Rattle.chan_values.specs.declared.error_code.ErrorCode.{ErrorCode}
 
 -- ---- from one redex to the next

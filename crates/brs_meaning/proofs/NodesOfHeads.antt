@@ -1,18 +1,17 @@
 -- Nodes that the redex of an expression names: none but those of its operands, its call and the store, and node 1.
-use Rattle.std.proofs.Common.{◌≡◌, ℕ, zero, suc, List, [], ◌∷◌, ◌++◌, Option, Some, None, refl}
-use Rattle.std.specs.Prelude.{ℤ, pos, Bool, true, false, length, map, reverse, cond, slice_get, ◌==◌, nat_le, int_lt, codes}
+use Rattle.std.proofs.Common.{ℕ, List, [], ◌∷◌, Option, Some, None}
+use Rattle.std.specs.Prelude.{ℤ, Bool, true, false, length, map, reverse, cond, slice_get, ◌==◌, nat_le, codes}
 use Rattle.std.specs.Str.{bytes_eq}
 use Rattle.chan_values.specs.Folded.{folded}
 use Rattle.chan_values.specs.Tree.{Tree}
 use Rattle.chan_values.specs.View.{tree_of}
 use Rattle.chan_values.specs.declared.message.Message.{Message}
-use Rattle.chan_values.specs.declared.error_code.ErrorCode.TheVariants.{E4, E5, E6, E9, E10}
+use Rattle.chan_values.specs.declared.error_code.ErrorCode.TheVariants.{E4, E5, E6, E10}
 use Rattle.brs_tokens.specs.declared.place.Place.{Place}
 use Rattle.heap_meaning.specs.declared.plain.Plain.TheVariants as p
 use Rattle.heap_meaning.specs.Values.{StoreValue, Scalar, Words, Reference, Entry}
 use Rattle.heap_meaning.specs.Keys.{value_at_key, with_key}
 use Rattle.heap_meaning.specs.Store.{Object, ArrayObject, MapObject, MessageObject, Store}
-use Rattle.copy_meaning.specs.Laying.{with_tree, value_of_tree}
 use Rattle.plain_operations.specs.Names as n
 use Rattle.plain_operations.specs.Functions.{function_result}
 use Rattle.plain_operations.specs.Methods.{method_row}
@@ -43,7 +42,7 @@ use Rattle.brs_grammar.specs.Form as f
 use Rattle.brs_grammar.specs.Form.{Text, Head, Aim, ToName, ToMember, ToIndex}
 use Rattle.brs_meaning.specs.declared.node_method.NodeMethod.{NodeMethod}
 use Rattle.brs_meaning.specs.declared.node_method.NodeMethod.TheVariants as m
-use Rattle.brs_meaning.specs.Program.{Program, Function, scoped}
+use Rattle.brs_meaning.specs.Program.{Function, scoped}
 use Rattle.brs_meaning.specs.Locals.{local}
 use Rattle.brs_meaning.specs.Request as r
 use Rattle.brs_meaning.specs.Request.{Access, Asks}
@@ -53,15 +52,15 @@ use Rattle.brs_meaning.specs.Operands.{operand, answer_of}
 use Rattle.brs_meaning.specs.Literals.{number_of, number_spelled}
 use Rattle.brs_meaning.specs.Taking.{taking, text_then, node_then, port_then, number_then, truth_then, value_then, target_then}
 use Rattle.brs_meaning.specs.Names.{function_named, name_value, found, named}
-use Rattle.brs_meaning.specs.NodeCalls.{asked, asked_with, called_func, node_call}
+use Rattle.brs_meaning.specs.NodeCalls.{asked_with, node_call}
 use Rattle.brs_meaning.specs.WorldCalls.{port_call, screen_call, screen_made, object_made, create_object, wait}
 use Rattle.brs_meaning.specs.MethodNames.{array_method_named, map_method_named, message_method_named, node_method_named}
-use Rattle.brs_meaning.specs.Methods.{array_called, other_map_called, map_called, data_of, told, message_called, plain_called, object_method_called, method_call}
+use Rattle.brs_meaning.specs.Methods.{array_called, other_map_called, map_called, data_of, told, plain_called, object_method_called, method_call}
 use Rattle.brs_meaning.specs.Members.{member_read, node_index_read, index_read, field_set, member_written, node_index_written, index_written, target_read, target_written}
 use Rattle.brs_meaning.specs.Calls.{plain_call, built_in_call, called, call, node_called, key_called, object_called, member_call}
 use Rattle.brs_meaning.specs.Heads.{binary, unary, entries, called_with, member_called_with, member_of, index_of, contract}
 use Rattle.brs_meaning.specs.Nodes.{Each, IfSome, TreeNames, ValueNames, EntriesName, ObjectNames, StoreNames, MessageNames, LocalsName, AccessNames, RequestNames}
-use Rattle.brs_meaning.proofs.EachLaws.{each_append, each_reverse, each_get}
+use Rattle.brs_meaning.proofs.EachLaws.{each_append, each_reverse}
 use Rattle.brs_meaning.proofs.NodesOfValues.{left_names, all_left_names, laid_names, with_tree_names}
 use Rattle.brs_meaning.proofs.NodesOfOperations.{AnswerNames, outcome_names, object_names, at_key_names, with_key_names, array_names, map_names, map_append_names, map_keys_names, message_names, read_member_names, read_index_names, write_member_names, write_index_names}
 

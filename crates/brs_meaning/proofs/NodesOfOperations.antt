@@ -1,6 +1,6 @@
 -- Nodes that operations name: none but those of their arguments and of the store.
-use Rattle.std.proofs.Common.{◌≡◌, ℕ, zero, suc, ◌-◌, List, [], ◌∷◌, ◌++◌, Option, Some, None, refl}
-use Rattle.std.specs.Prelude.{ℤ, pos, negsuc, Bool, true, false, ◌+◌, ◌^◌, length, map, cond, nat_le, nat_lt, slice_get, codes}
+use Rattle.std.proofs.Common.{ℕ, ◌-◌, List, [], ◌∷◌, ◌++◌, Option, Some, None}
+use Rattle.std.specs.Prelude.{ℤ, pos, negsuc, Bool, true, false, ◌+◌, ◌^◌, length, map, cond, nat_le, nat_lt, slice_get}
 use Rattle.std.specs.List.{remove}
 use Rattle.std.specs.Str.{bytes_eq}
 use Rattle.chan_values.specs.Folded.{folded}
@@ -16,8 +16,8 @@ use Rattle.plain_operations.specs.Outcome as o
 use Rattle.plain_operations.specs.Outcome.{Outcome}
 use Rattle.object_operations.specs.Answer as a
 use Rattle.object_operations.specs.Answer.{Answer, Gives, Raises, or_invalid, with_items, with_entries, if_room, number_in, text_of, items_of, entries_of, items_of_object, entries_of_object, item_at}
-use Rattle.object_operations.specs.Receivers.{no_member, ArrayRow, MapRow, MessageRow, on_array_object, on_array, on_map_object, on_map, on_message_object, on_message}
-use Rattle.object_operations.specs.Arrays.{took, taken, removed, deleted, appended, bare_array_row, array_row_with, method_of_array, array_row}
+use Rattle.object_operations.specs.Receivers.{no_member, MapRow, on_array_object, on_map_object, on_map, on_message_object}
+use Rattle.object_operations.specs.Arrays.{took, removed, deleted, appended, bare_array_row, array_row_with, method_of_array, array_row}
 use Rattle.object_operations.specs.Maps.{put_at, put_row, looked_up, existing, removed_key, deleted_row, joined, joined_row, append_keys_row, keys_row, bare_map_row, map_row_with, map_row_with_two, method_of_map, map_row, new_keys}
 use Rattle.object_operations.specs.Members.{member_read, read_member_row, member_written, write_member_row, item_read, index_read, read_index_row, item_written, index_written, write_index_row}
 use Rattle.object_operations.specs.Messages.{told, method_of_message, message_row}
@@ -28,8 +28,8 @@ use Rattle.object_operations.specs.declared.map_method.MapMethod.TheVariants as 
 use Rattle.object_operations.specs.declared.message_method.MessageMethod.{MessageMethod}
 use Rattle.object_operations.specs.declared.message_method.MessageMethod.TheVariants as em
 use Rattle.brs_meaning.specs.Operands.{answer_of}
-use Rattle.brs_meaning.specs.Nodes.{Each, IfSome, PlainNames, ValueNames, EntriesName, ObjectNames, StoreNames, MessageNames}
-use Rattle.brs_meaning.proofs.EachLaws.{each_append, each_get, each_set, each_remove, each_filter, each_placed, each_map}
+use Rattle.brs_meaning.specs.Nodes.{Each, IfSome, ValueNames, EntriesName, ObjectNames, StoreNames, MessageNames}
+use Rattle.brs_meaning.proofs.EachLaws.{each_append, each_get, each_set, each_remove, each_filter, each_placed}
 
 module _ (S : ℕ → Type 0) where
   abbrev pub AnswerNames : Answer → Type 0

@@ -1,18 +1,16 @@
 -- Nodes that a step, an answer and a call on top name.
-use Rattle.std.proofs.Common.{◌≡◌, ℕ, zero, suc, List, [], ◌∷◌, ◌++◌, Option, Some, None, refl}
+use Rattle.std.proofs.Common.{ℕ, zero, suc, List, [], ◌∷◌, ◌++◌, Option, Some, None}
 use Rattle.std.specs.Prelude.{ℤ, pos, Bool, true, false, length, reverse, cond, slice_get, nat_le}
 use Rattle.std.specs.Str.{bytes_eq}
 use Rattle.chan_values.specs.Tree as v
 use Rattle.chan_values.specs.Tree.{trees}
-use Rattle.chan_values.specs.declared.message.Message.{Message}
 use Rattle.chan_values.specs.declared.place.Place as c
 use Rattle.chan_values.specs.declared.error_code.ErrorCode.{ErrorCode}
 use Rattle.chan_values.specs.declared.error_code.ErrorCode.TheVariants.{E2, E6, E8}
 use Rattle.brs_tokens.specs.declared.place.Place.{Place}
-use Rattle.copy_meaning.specs.Laying.{all_laid, all_objects}
+use Rattle.copy_meaning.specs.Laying.{all_objects}
 use Rattle.heap_meaning.specs.declared.plain.Plain.TheVariants as p
-use Rattle.heap_meaning.specs.Values.{StoreValue, Scalar, Words, Reference, Entry}
-use Rattle.heap_meaning.specs.Keys.{keys_of}
+use Rattle.heap_meaning.specs.Values.{StoreValue, Scalar, Words, Reference}
 use Rattle.heap_meaning.specs.Store.{Object, ArrayObject, MapObject, MessageObject, Store}
 use Rattle.plain_operations.specs.Fit.{fitted}
 use Rattle.plain_operations.specs.declared.fit.Fit.{Fit}
@@ -20,7 +18,6 @@ use Rattle.plain_operations.specs.declared.fit.Fit.TheVariants as ft
 use Rattle.plain_operations.specs.declared.operator.Operator.TheVariants as o
 use Rattle.brs_grammar.specs.declared.tree.LoopKind.{LoopKind}
 use Rattle.brs_grammar.specs.declared.tree.TypeWord.{TypeWord}
-use Rattle.brs_grammar.specs.declared.tree.UpdateSign.{UpdateSign}
 use Rattle.brs_grammar.specs.Form as f
 use Rattle.brs_grammar.specs.Form.{Text, Aim, ToName, ToMember, ToIndex, Head, Form, Node, Forms, none, more, Params, unnamed, required, optional, Todo, finish, first}
 use Rattle.brs_meaning.specs.Program.{Program, Function, place_in}
@@ -33,7 +30,7 @@ use Rattle.brs_meaning.specs.Given.{Given, Setting}
 use Rattle.brs_meaning.specs.Heads.{binary, contract}
 use Rattle.brs_meaning.specs.Members.{target_read, target_written}
 use Rattle.brs_meaning.specs.Printing.{Printing, Printed, Unprinted, printed}
-use Rattle.brs_meaning.specs.Running.{Kind, Inner, OnTop, Call, Job, Does, Combines, Tests, Again, Compares, Increases, NextItem, NextKey, Binds, Task, before, Around, around, Under, under, Spot, AtHead, AtDecided, AtJob, AtEnd, AtFailure, Hole, Operand, Ends, Held, Tree, Works, Waits}
+use Rattle.brs_meaning.specs.Running.{Kind, Inner, OnTop, Call, Job, Does, Combines, Tests, Again, Compares, Increases, NextItem, NextKey, Binds, Task, before, Around, around, Under, under, AtHead, AtDecided, AtJob, AtEnd, AtFailure, Hole, Operand, Ends, Held, Tree, Works, Waits}
 use Rattle.brs_meaning.specs.Moving.{decides, down, begin, give_under, go_on, give, next, filled}
 use Rattle.brs_meaning.specs.Did as d
 use Rattle.brs_meaning.specs.Did.{Did}
@@ -45,10 +42,10 @@ use Rattle.brs_meaning.specs.Reduction as r
 use Rattle.brs_meaning.specs.Reduction.{reduce, after_given, after_did, home_of, setting_of, own_or}
 use Rattle.brs_meaning.specs.Answering as w
 use Rattle.brs_meaning.specs.Answering.{Reply, Arguments, Put, received, replied, brought, where_taken, bring, put_with, put}
-use Rattle.brs_meaning.specs.Nodes.{Each, IfSome, TreeNames, ValueNames, EntriesName, ObjectNames, StoreNames, HomesName, MessageNames, LocalsName, CallNames, JobNames, TasksName, AroundNames, UnderNames, SpotNames, HoleNames, HeldNames, CallsName, StateNames, RequestNames, ReducedNames, ReplyNames, ArgumentsName, PutNames}
-use Rattle.brs_meaning.proofs.EachLaws.{each_append, each_reverse, each_get}
+use Rattle.brs_meaning.specs.Nodes.{Each, IfSome, TreeNames, ValueNames, ObjectNames, StoreNames, HomesName, LocalsName, CallNames, JobNames, TasksName, AroundNames, UnderNames, SpotNames, HoleNames, HeldNames, CallsName, StateNames, RequestNames, ReducedNames, ReplyNames, ArgumentsName, PutNames}
+use Rattle.brs_meaning.proofs.EachLaws.{each_append, each_get}
 use Rattle.brs_meaning.proofs.NodesOfValues.{left_names, laid_names, all_laid_names, all_objects_name, with_tree_names, trees_name}
-use Rattle.brs_meaning.proofs.NodesOfOperations.{object_names, at_key_names}
+use Rattle.brs_meaning.proofs.NodesOfOperations.{object_names}
 use Rattle.brs_meaning.proofs.NodesOfHeads.{GivenNames, SettingNames, contract_names, binary_names, target_read_names, target_written_names}
 
 module _ (S : ℕ → Type 0) where

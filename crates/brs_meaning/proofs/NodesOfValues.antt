@@ -1,18 +1,16 @@
 -- Nodes that values name, in the store and on their way out of it and into it.
-use Rattle.std.proofs.Common.{◌≡◌, ℕ, zero, suc, ◌+◌, List, [], ◌∷◌, ◌++◌, Option, Some, None, refl}
-use Rattle.std.specs.Prelude.{Bool, true, false, length, map, cond, nat_lt, slice_get, option_map}
-use Rattle.std.specs.Option.{option_map as mapped}
+use Rattle.std.proofs.Common.{ℕ, zero, suc, ◌+◌, List, [], ◌∷◌, Option, Some, None}
+use Rattle.std.specs.Prelude.{Bool, true, false, length, cond, nat_lt, slice_get, option_map}
 use Rattle.chan_values.specs.Tree as t
 use Rattle.chan_values.specs.Tree.{Kind, Array, Keyed, Tree, Leaf, Branch, Trees, none, more, parts, trees}
 use Rattle.copy_meaning.specs.Unfolding.{Form, Single, Holds}
 use Rattle.copy_meaning.specs.Bounded.{joined, each, closed, opened, tree_within}
 use Rattle.copy_meaning.specs.Forms.{leaving, form_of_object, form_in}
-use Rattle.copy_meaning.specs.Answers.{Answer, Copy, TooDeep, TooLarge, answer_of, unfolded}
-use Rattle.copy_meaning.specs.Laying.{containers, arriving, laid, all_laid, entries_with, object_of, objects, all_objects, with_tree, value_of_tree}
+use Rattle.copy_meaning.specs.Answers.{Copy, TooLarge, answer_of, unfolded}
+use Rattle.copy_meaning.specs.Laying.{containers, arriving, laid, all_laid, entries_with, object_of, objects, all_objects, with_tree}
 use Rattle.heap_meaning.specs.declared.plain.Plain as pl
 use Rattle.heap_meaning.specs.declared.plain.Plain.TheVariants.{Invalid, Truth, Small, Big, Function, Node, Port, Screen}
-use Rattle.heap_meaning.specs.Values.{StoreValue, Scalar, Words, Reference, Entry}
-use Rattle.heap_meaning.specs.Keys.{values_of}
+use Rattle.heap_meaning.specs.Values.{StoreValue, Scalar, Words, Reference}
 use Rattle.heap_meaning.specs.Store.{Object, ArrayObject, MapObject, MessageObject, Store}
 use Rattle.brs_meaning.specs.Leaving as l
 use Rattle.brs_meaning.specs.Nodes.{Each, IfSome, LeafNames, TreeNames, TreesName, PlainNames, ValueNames, EntriesName, ObjectNames, StoreNames}

@@ -1,7 +1,7 @@
 -- The step of the whole tree is the step at the place where it is held.
 use mathlib.Core.List.{reverse_aux}
 use Rattle.std.proofs.Common.{◌≡◌, ℕ, suc, List, [], ◌∷◌, Option, Some, None, refl, sym, ap, ◌∙◌}
-use Rattle.std.specs.Prelude.{Bool, true, false, reverse, length, cond, slice_get}
+use Rattle.std.specs.Prelude.{Bool, true, false, reverse, length, cond}
 use Rattle.std.proofs.lemmas.List.{reverse-reverse}
 use Rattle.brs_tokens.specs.declared.place.Place as t
 use Rattle.chan_values.specs.declared.place.Place as c
@@ -10,13 +10,13 @@ use Rattle.heap_meaning.specs.declared.plain.Plain.TheVariants.{Invalid}
 use Rattle.heap_meaning.specs.Values.{StoreValue, Scalar}
 use Rattle.heap_meaning.specs.Store.{Store}
 use Rattle.brs_grammar.specs.Form.{Head, Form, Node, Forms, none, more}
-use Rattle.brs_meaning.specs.Program.{Program, Function, place_in}
+use Rattle.brs_meaning.specs.Program.{Program, place_in}
 use Rattle.brs_meaning.specs.Locals.{Home}
 use Rattle.brs_meaning.specs.Given as g
 use Rattle.brs_meaning.specs.Given.{Given}
 use Rattle.brs_meaning.specs.Did as d
 use Rattle.brs_meaning.specs.Did.{Did}
-use Rattle.brs_meaning.specs.Running.{Kind, Inner, OnTop, Call, Job, Task, Around, around, Under, under, Spot, AtHead, AtDecided, AtJob, AtEnd, AtFailure, Hole, Operand, Ends, Held, Tree, Works, Waits}
+use Rattle.brs_meaning.specs.Running.{Kind, Inner, OnTop, Call, Job, Task, Around, around, Under, under, Spot, AtHead, AtDecided, AtJob, AtEnd, AtFailure, Hole, Operand, Ends, Held, Works}
 use Rattle.brs_meaning.specs.Moving.{decides, down, begin, give_under, go_on, give, next, filled}
 use Rattle.brs_meaning.specs.Binding.{Begun, Begins, Refuses, begun}
 use Rattle.brs_meaning.specs.Heads.{contract}
@@ -24,8 +24,8 @@ use Rattle.brs_meaning.specs.Statements.{act}
 use Rattle.brs_meaning.specs.Leaving.{leaving}
 use Rattle.brs_meaning.specs.Reduction as r
 use Rattle.brs_meaning.specs.Reduction.{Went, Asked, Printed, Raised, Returned, TooBig, reduce, after_given, after_did, with_locals, home_of, setting_of, own_or}
-use Rattle.brs_meaning.specs.Plain.{Part, Value, Makes, Runs, Open, Parts, nothing, also, Statement, Does, Awaits, Fails, Finished, part_of, parts_of, Moved, Moves, Breaks, Rests, within, Look, IsValue, Steps, LookAll, AllValues, StepsIn, LookStatement, Ready, StepsStatement, Failing, AtEnd as Ended, start, onto, plug_under, plug, plug_hole, out, gone, entered, given, did, decided, after_value, in_order, node, statement, awaiting, call_step, look, look_all, look_statement, step}
-use Rattle.brs_meaning.specs.Held.{statement_of, beneath, part_of_tree, moved_as, moved_of, Undecided, Settled, AllUndecided, SpotIs, HoleIs, Fits, CallsAre, IsTree, SameStep, NoStep, ReceivedIn, ReceivedAtEnd}
+use Rattle.brs_meaning.specs.Plain.{Part, Value, Makes, Runs, Open, Parts, nothing, also, Statement, Does, part_of, parts_of, Moved, Moves, Breaks, Rests, within, Look, Steps, LookAll, AllValues, StepsIn, LookStatement, StepsStatement, start, onto, plug_under, plug, plug_hole, out, gone, entered, given, did, decided, after_value, in_order, node, statement, awaiting, call_step, look, look_all, look_statement, step}
+use Rattle.brs_meaning.specs.Held.{statement_of, beneath, part_of_tree, moved_of, Undecided, Settled, AllUndecided, SpotIs, HoleIs, CallsAre, SameStep, NoStep, ReceivedIn, ReceivedAtEnd}
 
 within_twice : {A B C : Type 0} (f : A → B) (g : B → C) (m : Moved A) → within g (within f m) ≡ within (λ a. g (f a)) m
 within_twice f g (Moves o a s) = refl

@@ -1,5 +1,5 @@
 -- What the world does to an actor: it answers an open want, and puts calls on top.
-use Rattle.std.specs.Prelude.{ℕ, ◌+◌, Bool, true, false, List, [], ◌∷◌, ◌++◌, length, Option, Some, None}
+use Rattle.std.specs.Prelude.{ℕ, Bool, true, false, List, [], ◌∷◌, ◌++◌, length, Option, Some, None}
 use Rattle.chan_values.specs.declared.error_code.ErrorCode.{ErrorCode}
 use Rattle.chan_values.specs.declared.message.Message.{Message}
 use Rattle.chan_values.specs.declared.place.Place as c
@@ -11,9 +11,9 @@ use Rattle.heap_meaning.specs.Store.{MapObject, MessageObject, Store}
 use Rattle.brs_grammar.specs.Form.{Params, unnamed}
 use Rattle.brs_meaning.specs.Program.{Program, Function, place_in}
 use Rattle.brs_meaning.specs.Locals.{Home}
-use Rattle.brs_meaning.specs.Request.{Request, Wait}
+use Rattle.brs_meaning.specs.Request.{Wait}
 use Rattle.brs_meaning.specs.Given.{Given, Wants}
-use Rattle.brs_meaning.specs.Running.{Kind, OnTop, Call, Spot, AtHead, AtFailure, Held, Tree, Works, Waits}
+use Rattle.brs_meaning.specs.Running.{OnTop, AtHead, AtFailure, Held, Tree, Works, Waits}
 use Rattle.brs_meaning.specs.Moving.{next, filled}
 use Rattle.brs_meaning.specs.Binding.{Begun, Begins, Refuses, begun}
 use Rattle.brs_meaning.specs.Heads.{contract}

@@ -2,14 +2,12 @@
 use Rattle.std.specs.Prelude.{ℕ, zero, suc, Bool, true, false, List, [], ◌∷◌, ◌++◌, length, Option, Some, None, cond, nat_le}
 use Rattle.chan_values.specs.declared.error_code.ErrorCode.{ErrorCode}
 use Rattle.chan_values.specs.declared.error_code.ErrorCode.TheVariants.{E2, E6, E8}
-use Rattle.brs_grammar.specs.Form.{Text, Forms, none, more, Params, unnamed, required, optional}
-use Rattle.brs_grammar.specs.Parts.{Callee}
+use Rattle.brs_grammar.specs.Form.{Text, none, more, Params, unnamed, required, optional}
 use Rattle.heap_meaning.specs.Values.{StoreValue}
 use Rattle.brs_meaning.specs.Program.{Function}
 use Rattle.brs_meaning.specs.Locals.{Locals}
 use Rattle.brs_meaning.specs.Typed.{typed}
-use Rattle.brs_meaning.specs.Running.{Kind, Call, Binds, Task, before, Held, Tree}
-use Rattle.brs_meaning.specs.Moving.{next}
+use Rattle.brs_meaning.specs.Running.{Kind, Call, Binds, Task, before}
 
 -- the most calls in progress that one actor has
 abbrev pub most_calls : ℕ

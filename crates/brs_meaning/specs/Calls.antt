@@ -1,20 +1,19 @@
 -- What a call gives, by what is called.
-use Rattle.std.specs.Prelude.{ℕ, List, [], ◌∷◌, map, Option, Some, None, slice_get, cond}
+use Rattle.std.specs.Prelude.{ℕ, List, map, Option, Some, None, slice_get, cond}
 use Rattle.std.specs.Str.{bytes_eq}
 use lib.Chars.{codes}
-use Rattle.chan_values.specs.declared.error_code.ErrorCode.TheVariants.{E2, E4, E5, E6, E7}
+use Rattle.chan_values.specs.declared.error_code.ErrorCode.TheVariants.{E4, E5, E7}
 use Rattle.heap_meaning.specs.declared.plain.Plain.TheVariants.{Invalid, Function, Node, Port, Screen}
-use Rattle.heap_meaning.specs.Values.{StoreValue, Scalar, Words, Reference, Entry}
+use Rattle.heap_meaning.specs.Values.{StoreValue, Scalar, Reference}
 use Rattle.heap_meaning.specs.Keys.{value_at_key}
-use Rattle.heap_meaning.specs.Store.{Object, ArrayObject, MapObject, MessageObject, Store}
+use Rattle.heap_meaning.specs.Store.{Object, MapObject, Store}
 use Rattle.plain_operations.specs.Functions.{function_result}
 use Rattle.plain_operations.specs.Names as n
 use Rattle.plain_operations.specs.declared.function.PlainFunction.{PlainFunction}
 use Rattle.brs_meaning.specs.declared.node_method.NodeMethod.{NodeMethod}
 use Rattle.object_operations.specs.Types.{type_row}
 use Rattle.brs_grammar.specs.Form.{Text}
-use Rattle.brs_meaning.specs.Given as g
-use Rattle.brs_meaning.specs.Given.{Given, Gives, Calls, Fails, Setting, answered}
+use Rattle.brs_meaning.specs.Given.{Given, Calls, Fails, Setting, answered}
 use Rattle.brs_meaning.specs.Operands.{operand, answer_of}
 use Rattle.brs_meaning.specs.WorldCalls.{port_call, screen_call, create_object, wait}
 use Rattle.brs_meaning.specs.NodeCalls.{node_call}

@@ -1,5 +1,5 @@
 -- What the redex of an expression gives.
-use Rattle.std.specs.Prelude.{ℕ, List, [], ◌∷◌, ◌++◌, length, Option, Some, None}
+use Rattle.std.specs.Prelude.{ℕ, List, [], ◌∷◌, ◌++◌, length, Option}
 use Rattle.chan_values.specs.declared.error_code.ErrorCode.{ErrorCode}
 use Rattle.heap_meaning.specs.Values.{StoreValue, Reference}
 use Rattle.heap_meaning.specs.Store.{Object, Store}

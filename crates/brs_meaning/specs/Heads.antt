@@ -1,5 +1,5 @@
 -- What an expression gives of the values of its operands, of which the last stands first: one row for each head.
-use Rattle.std.specs.Prelude.{ℕ, List, [], ◌∷◌, map, reverse}
+use Rattle.std.specs.Prelude.{List, [], ◌∷◌, map, reverse}
 use Rattle.brs_tokens.specs.declared.place.Place.{Place}
 use Rattle.chan_values.specs.declared.error_code.ErrorCode.TheVariants.{E2}
 use Rattle.heap_meaning.specs.declared.plain.Plain.TheVariants as p

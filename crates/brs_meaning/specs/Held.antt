@@ -1,17 +1,15 @@
 -- The tree that is held at its redex is the syntax tree, and its step is that of the syntax tree.
 use Rattle.std.specs.Prelude.{◌≡◌, ℕ, true, false, List, [], ◌∷◌}
-use Rattle.chan_values.specs.declared.error_code.ErrorCode.{ErrorCode}
 use Rattle.heap_meaning.specs.Values.{StoreValue}
 use Rattle.heap_meaning.specs.Store.{Store}
 use Rattle.brs_grammar.specs.Form.{Head, more}
 use Rattle.brs_tokens.specs.declared.place.Place.{Place}
 use Rattle.brs_meaning.specs.Program.{Program, Function}
 use Rattle.brs_meaning.specs.Locals.{Home}
-use Rattle.brs_meaning.specs.Running as r
 use Rattle.brs_meaning.specs.Running.{Kind, Inner, OnTop, Call, Task, Around, around, Under, Spot, AtHead, AtDecided, AtJob, AtEnd, AtFailure, Hole, Operand, Ends, Held, Tree, Works, Waits}
 use Rattle.brs_meaning.specs.Moving.{decides}
 use Rattle.brs_meaning.specs.Reduction.{Outcome, Raised, Reduced, reduce}
-use Rattle.brs_meaning.specs.Plain.{Part, Value, Makes, Runs, Open, Parts, nothing, also, Statement, Does, Fails, Finished, parts_of, start, onto, plug, plug_hole, Moved, Moves, Breaks, Rests, step}
+use Rattle.brs_meaning.specs.Plain.{Part, Value, Makes, Runs, Open, nothing, also, Statement, Does, Fails, Finished, parts_of, start, onto, plug, plug_hole, Moved, Moves, Breaks, Rests, step}
 use Rattle.brs_meaning.specs.Answering.{Reply, Arguments, Put, Done, Refused, received, replied, put}
 
 abbrev pub statement_of : Spot → Statement

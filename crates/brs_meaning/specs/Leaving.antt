@@ -1,7 +1,7 @@
 -- Values that leave their actor.
 use Rattle.std.specs.Prelude.{List, [], ◌∷◌, Option, Some, None}
 use Rattle.chan_values.specs.Tree.{Tree}
-use Rattle.copy_meaning.specs.Answers.{Answer, Copy, TooDeep, TooLarge, unfolded}
+use Rattle.copy_meaning.specs.Answers.{Answer, Copy, unfolded}
 use Rattle.heap_meaning.specs.Values.{StoreValue}
 use Rattle.heap_meaning.specs.Store.{Store}
 

@@ -1,5 +1,5 @@
 -- A call of a built-in method of a value that is no node, port or screen.
-use Rattle.std.specs.Prelude.{ℕ, List, [], ◌∷◌, length, Option, Some, None, slice_get, cond, codes}
+use Rattle.std.specs.Prelude.{List, [], ◌∷◌, length, Option, Some, None, slice_get, cond, codes}
 use Rattle.std.specs.Str.{bytes_eq}
 use Rattle.chan_values.specs.View.{tree_of}
 use Rattle.chan_values.specs.declared.message.Message.{Message}

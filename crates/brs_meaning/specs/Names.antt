@@ -1,5 +1,5 @@
 -- What a name reads as.
-use Rattle.std.specs.Prelude.{List, ◌∷◌, Option, Some, None, cond}
+use Rattle.std.specs.Prelude.{Option, Some, None, cond}
 use Rattle.chan_values.specs.declared.error_code.ErrorCode.TheVariants.{E1}
 use Rattle.heap_meaning.specs.declared.plain.Plain.TheVariants.{Function}
 use Rattle.heap_meaning.specs.Values.{StoreValue, Scalar}

@@ -1,7 +1,6 @@
 -- What a call of a node's method asks for: one row for each method, in the order of the table of node calls.
 use Rattle.std.specs.Prelude.{ℕ, List, length, Option, Some, None, cond, ◌==◌, nat_le}
 use Rattle.chan_values.specs.declared.error_code.ErrorCode.TheVariants.{E6, E9}
-use Rattle.chan_values.specs.Tree.{Tree}
 use Rattle.heap_meaning.specs.declared.plain.Plain.TheVariants.{Truth}
 use Rattle.heap_meaning.specs.Values.{StoreValue, Scalar}
 use Rattle.heap_meaning.specs.Store.{Store}

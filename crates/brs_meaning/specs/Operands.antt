@@ -1,5 +1,4 @@
 -- Values as operators and functions of numbers and texts see them, and what these give as values.
-use Rattle.std.specs.Prelude.{List, [], ◌∷◌}
 use Rattle.heap_meaning.specs.declared.plain.Plain as pl
 use Rattle.heap_meaning.specs.declared.plain.Plain.TheVariants as p
 use Rattle.heap_meaning.specs.Values.{StoreValue, Scalar, Words, Reference}

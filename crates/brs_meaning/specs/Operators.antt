@@ -1,5 +1,4 @@
 -- Which operation an operator of the source is.
-use Rattle.std.specs.Prelude.{List, [], ◌∷◌, Option, Some, None}
 use Rattle.brs_grammar.specs.declared.tree.ComparisonSign.{ComparisonSign}
 use Rattle.brs_grammar.specs.declared.tree.ComparisonSign.TheVariants as c
 use Rattle.brs_grammar.specs.declared.tree.ProductSign.{ProductSign}

@@ -1,6 +1,6 @@
 -- The calls of an actor as a syntax tree in which parts are values, and its step: the leftmost innermost part whose operands are all
 -- values is replaced.
-use Rattle.std.specs.Prelude.{ℕ, zero, suc, Bool, true, false, List, [], ◌∷◌, reverse, Option, Some, None, cond}
+use Rattle.std.specs.Prelude.{ℕ, zero, suc, List, [], ◌∷◌, reverse, Option, Some, None, cond}
 use Rattle.brs_tokens.specs.declared.place.Place as t
 use Rattle.chan_values.specs.declared.place.Place as c
 use Rattle.chan_values.specs.declared.error_code.ErrorCode.{ErrorCode}
@@ -21,7 +21,7 @@ use Rattle.brs_meaning.specs.Binding.{Begun, Begins, Refuses, begun}
 use Rattle.brs_meaning.specs.Heads.{contract}
 use Rattle.brs_meaning.specs.Statements.{act}
 use Rattle.brs_meaning.specs.Leaving.{leaving}
-use Rattle.brs_meaning.specs.Reduction.{Outcome, Went, Asked, Printed, Raised, Returned, TooBig, with_locals, home_of, setting_of, own_or}
+use Rattle.brs_meaning.specs.Reduction.{Outcome, Went, Asked, Printed, Returned, TooBig, with_locals, home_of, setting_of, own_or}
 
 mutual
   pub data Part : Type 0 where

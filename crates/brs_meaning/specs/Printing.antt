@@ -1,8 +1,7 @@
 -- The text of a `print`.
-use Rattle.std.specs.Prelude.{ℕ, ◌-◌, ◌%◌, ◌+◌, List, [], ◌∷◌, ◌++◌, length, replicate, Option, Some, None, slice_get, cond, nat_le, if◌then◌else◌, codes}
+use Rattle.std.specs.Prelude.{ℕ, ◌-◌, ◌%◌, List, [], ◌∷◌, ◌++◌, length, replicate, Option, Some, None, slice_get, nat_le, if◌then◌else◌, codes}
 use Rattle.std.specs.Str.{chars}
 use Rattle.std.specs.Fmt.{decimal}
-use Rattle.chan_values.specs.Tree as t
 use Rattle.chan_values.specs.Tree.{Tree}
 use Rattle.chan_values.specs.ValueText.{value_text}
 use Rattle.chan_values.specs.declared.error_code.ErrorCode.{ErrorCode}

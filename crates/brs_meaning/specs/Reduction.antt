@@ -13,7 +13,7 @@ use Rattle.brs_meaning.specs.Locals.{Locals, Home}
 use Rattle.brs_meaning.specs.Request.{Request}
 use Rattle.brs_meaning.specs.Given.{Given, Gives, Calls, Wants, Fails, Setting}
 use Rattle.brs_meaning.specs.Did.{Did, Goes, Continues, Awaits, Prints, Returns, Breaks}
-use Rattle.brs_meaning.specs.Running.{Kind, Inner, OnTop, Call, Task, Around, Under, Spot, AtHead, AtDecided, AtJob, AtEnd, AtFailure, Hole, Operand, Held, Tree, Works, Waits}
+use Rattle.brs_meaning.specs.Running.{Kind, Inner, Call, Task, Around, Under, Spot, AtHead, AtDecided, AtJob, AtEnd, AtFailure, Hole, Operand, Held, Tree, Works, Waits}
 use Rattle.brs_meaning.specs.Moving.{give_under, give, next, filled}
 use Rattle.brs_meaning.specs.Binding.{Begun, Begins, Refuses, begun}
 use Rattle.brs_meaning.specs.Heads.{contract}

@@ -1,5 +1,5 @@
 -- What an actor asks of the world, with portable values as trees.
-use Rattle.std.specs.Prelude.{ℕ, ℤ, Bool, List, Option}
+use Rattle.std.specs.Prelude.{ℕ, ℤ, Bool, List}
 use Rattle.chan_values.specs.Tree.{Tree}
 use Rattle.brs_grammar.specs.Form.{Text}
 

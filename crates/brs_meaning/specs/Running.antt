@@ -1,11 +1,10 @@
 -- An actor at work: its calls in progress, held at the redex.
-use Rattle.std.specs.Prelude.{ℕ, List, [], ◌∷◌, Option, Some, None}
+use Rattle.std.specs.Prelude.{ℕ, List, ◌∷◌, Option}
 use Rattle.brs_tokens.specs.declared.place.Place.{Place}
 use Rattle.chan_values.specs.declared.error_code.ErrorCode.{ErrorCode}
 use Rattle.brs_grammar.specs.declared.tree.TypeWord.{TypeWord}
 use Rattle.brs_grammar.specs.declared.tree.UpdateSign.{UpdateSign}
-use Rattle.brs_grammar.specs.declared.tree.LoopKind.{LoopKind}
-use Rattle.brs_grammar.specs.Form.{Text, Aim, Head, Form, Node, Forms, none, more, Doing, Todo, finish, first}
+use Rattle.brs_grammar.specs.Form.{Text, Aim, Head, Form, Forms, Doing, Todo, finish, first}
 use Rattle.heap_meaning.specs.Values.{StoreValue}
 use Rattle.brs_meaning.specs.Program.{Function}
 use Rattle.brs_meaning.specs.Locals.{Locals}

@@ -4,7 +4,7 @@ use Rattle.heap_meaning.specs.Store.{Store}
 use Rattle.brs_meaning.specs.Program.{Program}
 use Rattle.brs_meaning.specs.Locals.{Home}
 use Rattle.brs_meaning.specs.Running.{Tree, Works, Waits}
-use Rattle.brs_meaning.specs.Reduction.{Outcome, Went, Reduced, reduce}
+use Rattle.brs_meaning.specs.Reduction.{Outcome, Went, reduce}
 
 -- the outcomes but for steps that show nothing, in order, of at most so many steps
 abbrev pub seen : Outcome → List Outcome → List Outcome

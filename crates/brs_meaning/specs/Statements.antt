@@ -1,20 +1,19 @@
 -- What a statement does with the values of its operands, of which the last stands first: one row for each statement.
-use Rattle.std.specs.Prelude.{ℕ, ℤ, pos, suc, Bool, true, false, List, [], ◌∷◌, reverse, Option, Some, None, cond, slice_get, int_lt, int_le}
+use Rattle.std.specs.Prelude.{ℤ, pos, suc, Bool, true, false, List, [], ◌∷◌, reverse, Option, Some, None, cond, slice_get, int_lt, int_le}
 use Rattle.brs_tokens.specs.declared.place.Place.{Place}
 use Rattle.brs_grammar.specs.declared.tree.LoopKind.{LoopKind}
 use Rattle.brs_grammar.specs.declared.tree.LoopKind.TheVariants as loop
 use Rattle.brs_grammar.specs.declared.tree.TypeWord.{TypeWord}
 use Rattle.brs_grammar.specs.declared.tree.UpdateSign.{UpdateSign}
-use Rattle.brs_grammar.specs.Form.{Text, Mark, Aim, ToName, ToMember, ToIndex, Form, Forms, none, more, Doing, Set, Update, Drop, Print, Return, Exit, If, While, For, ForEach, Todo, finish, first}
-use Rattle.chan_values.specs.declared.error_code.ErrorCode.{ErrorCode}
-use Rattle.chan_values.specs.declared.error_code.ErrorCode.TheVariants.{E2, E9}
+use Rattle.brs_grammar.specs.Form.{Text, Aim, ToName, Form, Forms, none, more, Set, Update, Drop, Print, Return, Exit, If, While, For, ForEach, Todo}
+use Rattle.chan_values.specs.declared.error_code.ErrorCode.TheVariants.{E2}
 use Rattle.heap_meaning.specs.declared.plain.Plain.TheVariants.{Invalid, Truth, Small, Big}
-use Rattle.heap_meaning.specs.Values.{StoreValue, Scalar, Words, Reference, filler_meant}
+use Rattle.heap_meaning.specs.Values.{StoreValue, Scalar, Words, Reference}
 use Rattle.heap_meaning.specs.Keys.{keys_of}
 use Rattle.heap_meaning.specs.Store.{Object, ArrayObject, MapObject, Store}
 use Rattle.brs_meaning.specs.Locals.{Locals, local, assigned}
 use Rattle.brs_meaning.specs.Given.{Given, Gives, Calls, Wants, Fails, Setting}
-use Rattle.brs_meaning.specs.Running.{Job, Does, Combines, Tests, Again, Compares, Increases, NextItem, NextKey, Binds, Task, before, Under, under, Hole, Operand, Ends}
+use Rattle.brs_meaning.specs.Running.{Job, Does, Combines, Tests, Again, Compares, Increases, NextItem, NextKey, Binds, Task, before, Under, under, Operand, Ends}
 use Rattle.brs_meaning.specs.Did.{Did, Goes, Continues, Awaits, Prints, Returns, Breaks}
 use Rattle.brs_meaning.specs.Typed.{typed}
 use Rattle.brs_meaning.specs.Members.{target_read, target_written}

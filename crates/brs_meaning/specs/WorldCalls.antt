@@ -2,12 +2,12 @@
 use Rattle.std.specs.Prelude.{ℕ, pos, Bool, true, false, List, [], ◌∷◌, cond, ◌==◌, int_lt, codes}
 use Rattle.std.specs.Str.{bytes_eq}
 use Rattle.chan_values.specs.Folded.{folded}
-use Rattle.chan_values.specs.declared.error_code.ErrorCode.TheVariants.{E2, E4, E6, E10}
+use Rattle.chan_values.specs.declared.error_code.ErrorCode.TheVariants.{E4, E6, E10}
 use Rattle.heap_meaning.specs.declared.plain.Plain.TheVariants.{Invalid, Truth, Node, Screen}
-use Rattle.heap_meaning.specs.Values.{StoreValue, Scalar, Words}
+use Rattle.heap_meaning.specs.Values.{StoreValue, Scalar}
 use Rattle.heap_meaning.specs.Store.{ArrayObject, MapObject, Store}
 use Rattle.brs_grammar.specs.Form.{Text}
-use Rattle.brs_meaning.specs.Request.{Request, Asks, Make, Scene, MakePort, Wait, Poll}
+use Rattle.brs_meaning.specs.Request.{Asks, Make, Scene, MakePort, Wait, Poll}
 use Rattle.brs_meaning.specs.Given.{Given, Gives, Wants, Fails, makes}
 use Rattle.brs_meaning.specs.Taking.{taking, text_then, port_then, number_then}
 
