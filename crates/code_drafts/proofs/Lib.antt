@@ -1,0 +1,4 @@
+pub mod Prints
+pub mod Tails
+pub mod Targets
+pub mod Values
