@@ -1,0 +1,3 @@
+pub mod DraftCode
+pub mod TreeCode
+pub mod StatementCode
