@@ -1,6 +1,0 @@
-pub mod Every
-pub mod TagsLemmas
-pub mod Good
-pub mod Derived
-pub mod Again
-pub mod AsideLemmas
