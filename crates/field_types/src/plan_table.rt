@@ -20,7 +20,6 @@ pub struct PlanTable {
 impl Model for PlanTable {
     ghost use Rattle.std.specs.Prelude.{List};
     ghost use Rattle.field_types.specs.declared.plans.KindPlan.{KindPlan as Plan};
-
     ghost use Rattle.std.specs.Coded.{coded_list};
     ghost use Rattle.field_types.specs.contracts.plans.KindPlan as k;
 
