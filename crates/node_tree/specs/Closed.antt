@@ -20,9 +20,9 @@ abbrev pub IsClosed : List Node → Type 0
 IsClosed nodes = (n : ℕ) (x : Node) → node_at nodes n ≡ Some x → x.owner ≡ 0 → LeadsToRender nodes x
 
 -- what holds of the nodes, and what is known of their links
-pub record IsKept (nodes : List Node) (closed : Bool) : Type 0 where
+pub record IsKept (nodes : List Node) (known : Bool) : Type 0 where
   pub sound : IsSound nodes
-  pub closed : closed ≡ true → IsClosed nodes
+  pub closed : known ≡ true → IsClosed nodes
 
 -- ---- the tests
 

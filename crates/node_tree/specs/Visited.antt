@@ -14,11 +14,11 @@ abbrev pub is_open : List Node → Bool → ℕ → Bool
 is_open nodes closed n = open_in closed (node_at nodes n)
 
 -- a search went to those of some nodes to which it goes, and to no others
-pub record IsVisited (open : ℕ → Bool) (before after some : List ℕ) : Type 0 where
+pub record IsVisited (goes : ℕ → Bool) (before after some : List ℕ) : Type 0 where
   pub more : List ℕ
   pub is : after ≡ before ++ more
-  pub each : (n : ℕ) → has n some ≡ true → open n ≡ true → has n after ≡ true
-  pub only : (n : ℕ) → has n more ≡ true → (has n some ≡ true) × (open n ≡ true)
+  pub each : (n : ℕ) → has n some ≡ true → goes n ≡ true → has n after ≡ true
+  pub only : (n : ℕ) → has n more ≡ true → (has n some ≡ true) × (goes n ≡ true)
 
 abbrev pub linked_in : Option Node → List ℕ
 linked_in None = []

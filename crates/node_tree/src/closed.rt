@@ -34,12 +34,7 @@ fn is_renders(nodes: &[Node], node: u32) -> bool
 fn are_renders(nodes: &[Node], named: &[u32]) -> bool
     ensures { result ≡ list_all (is_renders nodes.now) named.now }
 {
-    for node in named {
-        if !is_renders(nodes, *node) {
-            return false;
-        }
-    }
-    true
+    named.iter().all(|node| is_renders(nodes, *node))
 }
 
 /// Whether links from nodes of render are known to lead to nodes of render alone, once a field of a node of this owner holds a value.

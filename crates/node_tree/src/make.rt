@@ -71,7 +71,7 @@ fn make_element<'a>(
     requires parents { HaveParents nodes.old.items (work_of plans.now next ∷ to_make plans.now pending.old.items) }
     requires room { first + length nodes.old.items ≤ 1048576 }
     ensures one { OnOk result (length nodes.new.items ≡ suc (length nodes.old.items)) }
-    ensures rest { OnOk result (finished plans.now owner first nodes.new.items (to_make plans.now pending.new.items) ≡ finished plans.now owner first nodes.old.items (work_of plans.now next ∷ to_make plans.now pending.old.items)) }
+    ensures rest { OnOk result (finished plans.now owner first nodes.new.items (to_make plans.now pending.new.items) ≡ finished plans.now owner first nodes.old.items (work_of plans.now next.entry ∷ to_make plans.now pending.old.items)) }
     ensures parents { OnOk result (HaveParents nodes.new.items (to_make plans.now pending.new.items)) }
 {
     let at = nodes.len();
