@@ -86,8 +86,9 @@ impl FieldList {
         ensures { self.new ≡ change_first (λ f. is_alike f.id name.now) (opened value) self.old }
     {
         if let Some(at) = self.place_of(name) {
-            self.items[at].value = value;
-            self.items[at].opening = opening;
+            let field = &mut self.items[at];
+            field.value = value;
+            field.opening = opening;
         }
     }
 }

@@ -91,7 +91,8 @@ fn make_element<'a>(
         return Err(NoMemory);
     };
     push_elements(pending, element.children.as_slice(), at)?;
-    push_kind(pending, plans, element.place, at)
+    push_kind(pending, plans, element.place, at)?;
+    Ok(())
 }
 
 /// The nodes of one making, numbered from `first` on.

@@ -1,6 +1,7 @@
 //! New nodes, and the fields that they begin with.
 ghost use Rattle.std.specs.Prelude.{◌≡◌, [], ◌++◌, length, map, reverse, slice_get, Some, IfOk, OnOk};
 ghost use Rattle.chan_values.specs.View.{tree_of};
+ghost use Rattle.field_types.specs.Plans.{IsPlanTable};
 ghost use Rattle.field_types.specs.Words.{is_alike};
 ghost use Rattle.node_tree.specs.Nodes.{change_first};
 ghost use Rattle.node_tree.specs.Making.{opening_field, base_in, kind_in, own_fields, lineage, kind_fields, opened, with_attributes, made_node};
@@ -120,7 +121,8 @@ fn open_fields(
 }
 
 fn kind_name(alloc: Global, plans: &PlanTable, place: u32) -> Result<Text, NoMemory>
-    ensures { IfOk result (λ name. name ≡ kind_in (slice_get plans.now place)) }
+    ensures name { IfOk result (λ name. name ≡ kind_in (slice_get plans.now place)) }
+    ensures table { IsPlanTable plans.now }
 {
     match plans.get(place as usize) {
         None => Ok(Text::new(alloc)),
@@ -137,12 +139,14 @@ pub fn new_node(
     owner: u32,
     parent: Option<u32>,
 ) -> Result<Node, NoMemory>
-    ensures { IfOk result (λ node. node ≡ made_node plans.now owner parent place values.now []) }
+    ensures node { IfOk result (λ node. node ≡ made_node plans.now owner parent place values.now []) }
+    ensures table { IsPlanTable plans.now }
 {
+    let kind = kind_name(alloc, plans, place)?;
     let mut fields = kind_fields(alloc, plans, place)?;
     open_fields(alloc, &mut fields, values)?;
     Ok(Node {
-        kind: kind_name(alloc, plans, place)?,
+        kind,
         owner,
         parent,
         children: ChildList::new(alloc),
