@@ -4,15 +4,14 @@ use Rattle.std.proofs.Math.Seq.{drop-cons}
 use Rattle.std.proofs.Math.ListN.{drop_of_length-le}
 use Rattle.chan_values.specs.View.{tree_of}
 use Rattle.field_types.specs.declared.plans.AttributeValue.{AttributeValue}
-use Rattle.field_types.specs.Words.{is_alike}
 use Rattle.node_tree.specs.declared.field.Field.{Field}
-use Rattle.node_tree.specs.Nodes.{change_first}
-use Rattle.node_tree.specs.Making.{opened, with_attributes}
+use Rattle.node_tree.specs.Fields.{with_value}
+use Rattle.node_tree.specs.Making.{with_attributes}
 
-pub attribute_next : (values : List AttributeValue) (i : ℕ) (v : AttributeValue) (fields new all : List Field) → i < length values → v ≡ get_or values i v → new ≡ change_first (λ f. is_alike f.id v.field) (opened (tree_of v.value)) fields → with_attributes (drop i values) fields ≡ all → with_attributes (drop (i + 1) values) new ≡ all
+pub attribute_next : (values : List AttributeValue) (i : ℕ) (v : AttributeValue) (fields new all : List Field) → i < length values → v ≡ get_or values i v → new ≡ with_value v.field (tree_of v.value) fields → with_attributes (drop i values) fields ≡ all → with_attributes (drop (i + 1) values) new ≡ all
 attribute_next values i v fields new all h e is so_far =
     ap (with_attributes (drop (i + 1) values)) is
-    ∙ ap (λ k. with_attributes (drop k values) (change_first (λ f. is_alike f.id v.field) (opened (tree_of v.value)) fields)) (add-one i)
+    ∙ ap (λ k. with_attributes (drop k values) (with_value v.field (tree_of v.value) fields)) (add-one i)
     ∙ sym (ap (λ l. with_attributes l fields) (drop-cons values i v h ∙ ap (λ w. w ∷ drop (suc i) values) (sym e)))
     ∙ so_far
 

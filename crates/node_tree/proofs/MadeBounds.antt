@@ -14,7 +14,7 @@ use Rattle.node_tree.specs.declared.field.Field.{Field}
 use Rattle.node_tree.specs.declared.node.Node.{Node}
 use Rattle.node_tree.specs.Nodes.{node_at, owner_of, changed, with_children, with_node}
 use Rattle.node_tree.specs.Subtree.{Subtree, subtree, Subtrees, none, more, joined, of_element, of_elements}
-use Rattle.node_tree.specs.Making.{base_in, elements_in, opening_field, own_in, own_fields, lineage, kind_fields, opened, with_attributes, children_given, made_node, made}
+use Rattle.node_tree.specs.Making.{base_in, elements_in, opening_field, own_in, own_fields, lineage, kind_fields, with_attributes, children_given, made_node, made}
 use Rattle.node_tree.specs.Reach.{parent_and, kin, named_by}
 use Rattle.node_tree.proofs.Places.{length_changed, read_changed, at_same, at_other, read_with}
 use Rattle.node_tree.proofs.Kin.{same_or}
@@ -80,7 +80,7 @@ kinds_name P plans table (q ∷ qs) = named_append P (own_fields plans q) (flat_
 attributes_name : (P : ℕ → Type 0) (values : List AttributeValue) → NameNoNode values → (fields : List Field) → AllByRecursion P (named_by fields) → AllByRecursion P (named_by (with_attributes values fields))
 attributes_name P [] v fields h = h
 attributes_name P (a ∷ values) v fields h =
-    attributes_name P values v.1 _ (named_value P (λ f. is_alike f.id a.field) (opened (tree_of a.value)) (tree_of a.value) (λ f. refl) fields (none_named P (nodes_in (tree_of a.value)) v.0) h)
+    attributes_name P values v.1 _ (named_value P (λ f. is_alike f.id a.field) (λ f. record f { value = tree_of a.value }) (tree_of a.value) (λ f. refl) fields (none_named P (nodes_in (tree_of a.value)) v.0) h)
 
 pub new_names : (P : ℕ → Type 0) (plans : List KindPlan) → IsPlanTable plans → (owner : ℕ) (parent : Option ℕ) (place : ℕ) (values : List AttributeValue) (ks : List ℕ) → NameNoNode values → AllByRecursion P (named_by (made_node plans owner parent place values ks).fields)
 new_names P plans table owner parent place values ks v = attributes_name P values v (kind_fields plans place) (kinds_name P plans table (lineage (length plans) plans (Some place)))
