@@ -1,0 +1,2 @@
+mod GoingOn
+mod Bounds
