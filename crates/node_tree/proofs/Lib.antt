@@ -8,3 +8,6 @@ pub mod Moves
 pub mod Lineages
 pub mod Visits
 pub mod Stays
+pub mod Givens
+pub mod Works
+pub mod NamedLists

@@ -3,5 +3,10 @@ pub mod Nodes
 pub mod Fields
 pub mod Family
 pub mod Search
+pub mod Subtree
 pub mod Making
+pub mod Reach
+pub mod Owned
+pub mod Visited
+pub mod Closed
 pub mod Pending

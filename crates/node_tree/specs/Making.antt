@@ -1,12 +1,21 @@
--- How a node of a kind begins.
-use Rattle.std.specs.Prelude.{ℕ, zero, suc, List, [], ◌∷◌, ◌++◌, Option, Some, None, map, length, slice_get}
+-- How nodes are made: a node of a kind with the nodes below it, numbered in preorder.
+use Rattle.std.specs.Prelude.{ℕ, zero, suc, ◌+◌, List, [], ◌∷◌, ◌++◌, Option, Some, None, map, length, slice_get}
 use Rattle.std.specs.List.{flat_map}
 use Rattle.chan_values.specs.Folded.{folded}
+use Rattle.chan_values.specs.Tree.{Tree}
 use Rattle.chan_values.specs.View.{tree_of}
+use Rattle.field_types.specs.declared.plans.AttributeValue.{AttributeValue}
 use Rattle.field_types.specs.declared.plans.FieldPlan.{FieldPlan}
 use Rattle.field_types.specs.declared.plans.KindPlan.{KindPlan}
+use Rattle.field_types.specs.Elements.{Elements, none as no_element}
+use Rattle.field_types.specs.Plans.{elements_of}
+use Rattle.field_types.specs.Words.{is_alike}
 use Rattle.node_tree.specs.declared.field.Field.{Field}
 use Rattle.node_tree.specs.declared.node.Node.{Node}
+use Rattle.node_tree.specs.Nodes.{change_first}
+use Rattle.node_tree.specs.Subtree.{Subtree, subtree, Subtrees, none, more, joined, size, of_elements}
+
+-- ---- the fields of a new node
 
 abbrev pub base_in : Option KindPlan → Option ℕ
 base_in None = None
@@ -37,6 +46,59 @@ lineage (suc most) plans (Some place) = lineage most plans (base_in (slice_get p
 abbrev pub kind_fields : List KindPlan → ℕ → List Field
 kind_fields plans place = flat_map (own_fields plans) (lineage (length plans) plans (Some place))
 
--- a node of a kind, with no parent and no children
+-- a field with another opening value, which it holds
+abbrev pub opened : Tree → Field → Field
+opened v f = record f { value = v; opening = v }
+
+-- the fields of a node of a child element: what an attribute says is the opening value of the field of its name
+abbrev pub with_attributes : List AttributeValue → List Field → List Field
+with_attributes [] fields = fields
+with_attributes (v ∷ vs) fields = with_attributes vs (change_first (λ f. is_alike f.id v.field) (opened (tree_of v.value)) fields)
+
+-- ---- what a making makes
+
+abbrev pub elements_in : Option KindPlan → Elements
+elements_in None = no_element
+elements_in (Some p) = elements_of p.children
+
+-- the children that a kind gives each of its nodes: those that its base gives, and then what its own elements make.
+-- Kinds stand inside one another, so many deep at most
+abbrev pub children_given : ℕ → List KindPlan → Option ℕ → Subtrees
+children_given zero plans o = none
+children_given (suc most) plans None = none
+children_given (suc most) plans (Some place) = joined (children_given most plans (base_in (slice_get plans place))) (of_elements (λ p. children_given most plans (Some p)) (elements_in (slice_get plans place)))
+
+-- a node of a kind with all below it. A kind holds only kinds of lower places, so none stand deeper than there are kinds
+abbrev pub kind_subtree : List KindPlan → ℕ → Subtree
+kind_subtree plans place = subtree place [] (children_given (length plans) plans (Some place))
+
+-- ---- the nodes that are made
+
+-- the numbers of the topmost nodes, where each subtree takes as many numbers as it has nodes
+abbrev pub numbers : ℕ → Subtrees → List ℕ
+numbers first none = []
+numbers first (more t ts) = first ∷ numbers (first + size t) ts
+
+abbrev pub made_node : List KindPlan → ℕ → Option ℕ → ℕ → List AttributeValue → List ℕ → Node
+made_node plans owner parent place values children = record { kind = kind_in (slice_get plans place); owner = owner; parent = parent; children = children; fields = with_attributes values (kind_fields plans place) }
+
+-- the nodes of a subtree in preorder, the topmost one first, with numbers from that of the first one on
+abbrev mutual
+  pub numbered : List KindPlan → ℕ → Option ℕ → ℕ → Subtree → List Node
+  numbered plans owner parent first (subtree place values children) = made_node plans owner parent place values (numbers (suc first) children) ∷ all_numbered plans owner (Some first) (suc first) children
+
+  pub all_numbered : List KindPlan → ℕ → Option ℕ → ℕ → Subtrees → List Node
+  all_numbered plans owner parent first none = []
+  all_numbered plans owner parent first (more t ts) = numbered plans owner parent first t ++ all_numbered plans owner parent (first + size t) ts
+
+-- how many nodes a making makes
+abbrev pub made_count : List KindPlan → ℕ → ℕ
+made_count plans place = size (kind_subtree plans place)
+
+-- the nodes, once a node of a kind was made, with all below it
+abbrev pub made : List Node → List KindPlan → ℕ → ℕ → List Node
+made nodes plans place owner = nodes ++ numbered plans owner None (suc (length nodes)) (kind_subtree plans place)
+
+-- a node of a kind alone
 abbrev pub new_node : List KindPlan → ℕ → ℕ → Node
-new_node plans place owner = record { kind = kind_in (slice_get plans place); owner = owner; parent = None; children = []; fields = kind_fields plans place }
+new_node plans place owner = made_node plans owner None place [] []

@@ -1,5 +1,6 @@
 //! Parents and children: how a node gets another parent.
 ghost use Rattle.std.specs.Prelude.{◌≡◌, Some, IfOk, OnOk, OnErr, IsTrue};
+ghost use Rattle.node_tree.specs.Closed.{are_alike};
 ghost use Rattle.node_tree.specs.Nodes.{IsNode, children_of, parent_of, with_node, with_children, with_parent};
 ghost use Rattle.node_tree.specs.Family.{has, without, with_child, ancestry, left, standing, can_stand, appended, can_insert, inserted, is_child, removed, IsSound};
 
@@ -69,6 +70,13 @@ fn set_parent(nodes: &mut Vec<Node>, node: u32, parent: Option<u32>)
     nodes[node as usize - 1].parent = parent;
 }
 
+/// Whether both owners are render, or neither.
+fn are_alike(one: u32, other: u32) -> bool
+    ensures { result ≡ are_alike one other }
+{
+    (one == 0) == (other == 0)
+}
+
 impl Nodes {
     /// Whether a node is another or one of its ancestors.
     fn is_above(&self, above: u32, node: u32) -> bool
@@ -94,8 +102,10 @@ impl Nodes {
         ensures err { OnErr result (self.new ≡ self.old) }
     {
         let parent = self.parent(child);
+        let closed = self.closed && are_alike(self.owner(node), self.owner(child));
         change_children(&mut self.nodes, place, parent, node, child)?;
         set_parent(&mut self.nodes, child, Some(node));
+        self.closed = closed;
         Ok(())
     }
 

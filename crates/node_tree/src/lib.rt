@@ -3,16 +3,20 @@
 
 mod answers;
 mod children;
+mod closed;
 mod family;
 mod field;
 mod field_calls;
 mod field_list;
 mod held;
 mod laws;
+mod make;
 mod making;
+mod named;
 mod names;
 mod node;
 mod nodes;
+mod reach;
 mod search;
 
 pub use answers::{FieldLine, MakeFault, SetResult};

@@ -62,7 +62,7 @@ fn labels(alloc: Global, count: u32) -> Result<Nodes, NoMemory> {
     let plans = plans(alloc)?;
     let mut nodes = Nodes::new(alloc, &plans)?;
     for _ in 0..count {
-        match nodes.add_node(&plans, 1, 3) {
+        match nodes.make(&plans, 1, 3) {
             Ok(_) => {}
             Err(MakeFault::TooManyNodes | MakeFault::NoMemory) => return Err(NoMemory),
         }
