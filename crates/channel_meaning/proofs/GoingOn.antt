@@ -107,7 +107,7 @@ module _ (ch : Channel) (bound : ℕ) where
       record {
         rest = trace_bytes ch.paths on.lines ++ tail;
         is = ap (run_text ch) (after_both events more (opening ch))
-          ∙ ap (λ l. trace_bytes ch.paths l ++ tail) on.trace
-          ∙ ap (λ l. l ++ tail) (flat_map-append (line_text ch.paths) v.history.trace on.lines)
-          ∙ append_assoc (trace_bytes ch.paths v.history.trace) (trace_bytes ch.paths on.lines) tail;
+            ∙ ap (λ l. trace_bytes ch.paths l ++ tail) on.trace
+            ∙ ap (λ l. l ++ tail) (flat_map-append (line_text ch.paths) v.history.trace on.lines)
+            ∙ append_assoc (trace_bytes ch.paths v.history.trace) (trace_bytes ch.paths on.lines) tail;
       }

@@ -1,5 +1,5 @@
 -- Task nodes: what a set of `control` starts and stops.
-use Rattle.std.specs.Prelude.{ℕ, suc, Bool, true, false, ◌&&◌, ◌==◌, not, List, [], ◌∷◌, ◌++◌, length, map, filter, filter_map, position, Option, Some, None, option_and_then, option_map, codes, nat_lt, if◌then◌else◌}
+use Rattle.std.specs.Prelude.{ℕ, suc, Bool, true, false, ◌&&◌, ◌==◌, not, List, [], ◌∷◌, ◌++◌, length, map, drop, position, Option, Some, None, option_and_then, option_map, codes, nat_lt, if◌then◌else◌}
 use Rattle.std.specs.Str.{bytes_eq}
 use Rattle.chan_values.specs.Folded.{folded}
 use Rattle.chan_values.specs.declared.error_code.ErrorCode.TheVariants.{E9, E11}
@@ -19,7 +19,7 @@ use Rattle.brs_meaning.specs.Reduction.{home_of}
 use Rattle.brs_meaning.specs.Answering.{State, state, Value, Arguments, Values, Put, Done, Refused, put}
 use Rattle.world_meaning.specs.Channel.{Channel, Component, function_at, function_in, component_at, kind_of_node, node_extends}
 use Rattle.world_meaning.specs.Labels.{Label, Starts, Stops, Drops}
-use Rattle.world_meaning.specs.Core.{Entry, KeyEntry, AccessEntry, LastEntry, Answer, Another, Actor, Core, Moved, moved, followed, actor_at, change_actor, home_of_node, store_of_actor, homes_of_actor}
+use Rattle.world_meaning.specs.Core.{names, only, without_posts, Answer, Another, Actor, Core, Moved, moved, followed, actor_at, change_actor, home_of_node, store_of_actor, homes_of_actor}
 use Rattle.world_meaning.specs.Ending.{end_actor}
 use Rattle.world_meaning.specs.Agendas.{yes}
 use Rattle.world_meaning.specs.Effect.{Jobs, Effect, tells, raises}
@@ -30,9 +30,9 @@ use Rattle.world_meaning.specs.Changing.{text_at, words_of, change, set_of, set_
 abbrev pub is_of_node : (node : ℕ) → Actor → Bool
 is_of_node n x = elim x.node [ None ↦ false | Some m ↦ m == n ]
 
--- the actor that a node started and that hasn't ended
-abbrev pub live_actor_of : (node : ℕ) → Core → Option ℕ
-live_actor_of n c = position (λ x. x.live && is_of_node n x) c.actors
+-- the task that a node started and that hasn't ended, by its place among the tasks: these are the actors from 2 on
+abbrev pub live_task_of : (node : ℕ) → Core → Option ℕ
+live_task_of n c = position (λ x. x.live && is_of_node n x) (drop 2 c.actors)
 
 -- ---- the change of control, and that of state with it
 
@@ -98,37 +98,28 @@ run_component ch None n word c = set_control n word (codes "stop") c
 run_component ch (Some component) n word c =
     run_function (function_at ch (function_in ch component (text_at c.nodes n (codes "functionname")))) component.scope n word c
 
--- with a live actor only control is set
+-- with a live task only control is set
 abbrev pub run_task : Channel → (live : Option ℕ) → (node : ℕ) → (word : Tree) → Core → Effect
-run_task ch (Some a) n word c = set n (codes "control") word c
+run_task ch (Some task) n word c = set n (codes "control") word c
 run_task ch None n word c = run_component ch (option_and_then (component_at ch) (kind_of_node ch c.nodes n)) n word c
 
 -- ---- STOP
 
--- the number of an entry of the actor
-abbrev pub number_of : ℕ → Entry → Option ℕ
-number_of a (KeyEntry number key press) = None
-number_of a (AccessEntry b number access) = if b == a then Some number else None
-number_of a (LastEntry b number returned) = if b == a then Some number else None
-
-abbrev pub is_of_actor : ℕ → Entry → Bool
-is_of_actor a e = elim (number_of a e) [ None ↦ false | Some number ↦ true ]
-
 -- the actor ends, and its entry that hasn't begun is dropped
 abbrev pub stop : ℕ → Core → Moved
-stop a c = moved (record (end_actor a c) { inbox = filter (λ e. not (is_of_actor a e)) c.inbox }) (Stops a ∷ map (Drops a) (filter_map (number_of a) c.inbox))
+stop a c = moved (record (end_actor a c) { inbox = without_posts a c.inbox }) (Stops a ∷ map (Drops a) (only a (names c.inbox)))
 
 abbrev pub stop_task : (live : Option ℕ) → (node : ℕ) → (word : Tree) → Core → Effect
 stop_task None n word c = set n (codes "control") word c
-stop_task (Some a) n word c = and_set (stop a c) (set_control n word (codes "stop"))
+stop_task (Some task) n word c = and_set (stop (suc (suc task)) c) (set_control n word (codes "stop"))
 
 -- ---- a set of `control`
 
 -- RUN and STOP are read in any case of their letters; any other word is only set
 abbrev pub control : Channel → (node : ℕ) → (word : Tree) → Core → Effect
 control ch n word c =
-    if bytes_eq (folded (words_of word)) (codes "run") then run_task ch (live_actor_of n c) n word c
-    else if bytes_eq (folded (words_of word)) (codes "stop") then stop_task (live_actor_of n c) n word c
+    if bytes_eq (folded (words_of word)) (codes "run") then run_task ch (live_task_of n c) n word c
+    else if bytes_eq (folded (words_of word)) (codes "stop") then stop_task (live_task_of n c) n word c
     else set n (codes "control") word c
 
 -- whether a set is one of the field `control` of a task node

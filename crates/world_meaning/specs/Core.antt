@@ -1,5 +1,5 @@
 -- The world without its histories: all that a step reads and changes.
-use Rattle.std.specs.Prelude.{ℕ, zero, suc, Bool, true, false, ◌==◌, List, [], ◌∷◌, ◌++◌, position, Option, Some, None, option_map, slice_get}
+use Rattle.std.specs.Prelude.{ℕ, Bool, false, ◌==◌, List, [], ◌∷◌, ◌++◌, map, position, Option, Some, None, slice_get, if◌then◌else◌}
 use Rattle.chan_values.specs.declared.end_reason.EndReason.{EndReason}
 use Rattle.chan_values.specs.declared.key.Key.{Key}
 use Rattle.chan_values.specs.declared.message.Message.{Message}
@@ -28,6 +28,28 @@ abbrev pub name_of : Entry → EntryName
 name_of (KeyEntry number key press) = entry.Key number
 name_of (AccessEntry actor number access) = entry.Post actor number
 name_of (LastEntry actor number returned) = entry.Post actor number
+
+abbrev pub names : List Entry → List EntryName
+names inbox = map name_of inbox
+
+-- whether an entry is a post of an actor, and its number
+abbrev pub is_post_of : ℕ → EntryName → Bool
+is_post_of a (entry.Post b number) = b == a
+is_post_of a (entry.Key number) = false
+
+abbrev pub number_of : EntryName → ℕ
+number_of (entry.Post a number) = number
+number_of (entry.Key number) = number
+
+-- the numbers of an actor's posts among entries
+abbrev pub only : ℕ → List EntryName → List ℕ
+only a [] = []
+only a (n ∷ ns) = if is_post_of a n then number_of n ∷ only a ns else only a ns
+
+-- the entries that are no posts of an actor
+abbrev pub without_posts : ℕ → List Entry → List Entry
+without_posts a [] = []
+without_posts a (e ∷ es) = if is_post_of a (name_of e) then without_posts a es else e ∷ without_posts a es
 
 -- what the end of an entry does: it hands an answer to the actor that waits for it, or ends the channel, since nobody took a press of back
 pub data Closing : Type 0 where

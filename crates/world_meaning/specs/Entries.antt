@@ -21,13 +21,13 @@ use Rattle.world_meaning.specs.Effect.{Jobs, Effect, gives, serve}
 use Rattle.world_meaning.specs.Changing.{change, set_of}
 use Rattle.world_meaning.specs.Control.{is_of_node}
 use Rattle.world_meaning.specs.Accesses.{effect, nodes_of}
-use Rattle.world_meaning.specs.NodesMade.{nodes_given}
+use Rattle.node_tree.specs.Reach.{given}
 
 -- ---- a posted access
 
 -- its receiver and the nodes of its arguments become render's, with all that they reach
 abbrev pub give_to_render : Access → Core → Core
-give_to_render access c = record c { nodes = nodes_given c.nodes (nodes_of access) }
+give_to_render access c = record c { nodes = given c.nodes (nodes_of access) }
 
 -- ---- a key
 

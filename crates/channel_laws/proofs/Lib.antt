@@ -1,0 +1,13 @@
+mod Lists
+mod Changes
+mod Walks
+mod Acts
+mod Outcomes
+mod Keeping
+mod Accesses
+mod Steps
+mod Events
+mod CountingPlaces
+mod CountingAccesses
+mod CountingSteps
+mod CountingEvents
