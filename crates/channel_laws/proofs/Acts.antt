@@ -1,6 +1,6 @@
 -- What keeps the rule: one lemma for each kind of line of posts and entries.
-use Rattle.std.proofs.Common.{◌≡◌, ℕ, suc, ◌+◌, ◌≤◌, Bool, true, false, cond, List, [], ◌∷◌, ◌++◌, Option, Some, None, refl, sym, ap, ◌∙◌, subst, inl, inr, ◌⊎◌, arith, map}
-use Rattle.std.specs.Prelude.{◌&&◌, slice_get, nat_eq, if◌then◌else◌, count_by}
+use Rattle.std.proofs.Common.{◌≡◌, ℕ, suc, ◌+◌, ◌≤◌, Bool, true, false, List, [], ◌∷◌, ◌++◌, Option, Some, None, refl, sym, ap, ◌∙◌, subst, inl, inr, ◌⊎◌, arith, map}
+use Rattle.std.specs.Prelude.{◌&&◌, slice_get, nat_eq, if◌then◌else◌}
 use Rattle.std.proofs.lemmas.List.{append_assoc, append-nil}
 use Rattle.std.proofs.lemmas.Bool.{eq-eqb, ne_eqb}
 use Rattle.chan_values.specs.declared.message.Message.{Message}
@@ -11,12 +11,12 @@ use Rattle.trace_report.specs.declared.entry.EntryName.TheVariants.{Post, Key}
 use Rattle.brs_grammar.specs.Form.{Text}
 use Rattle.world_meaning.specs.Labels.{Drops}
 use Rattle.world_meaning.specs.Core.{Next, Agenda, Deliveries, Actor, only, is_post_of, number_of, posts_of}
-use Rattle.channel_meaning.specs.History.{Line, Posted, Began, Ended, Dropped, Notified, Change, History, said, arrived, answer_all, delivered, record_all}
-use Rattle.channel_laws.specs.Laws.{scan, Phase, Free, Waiting, Open, Gone, when_free, when_waiting, when_open, talks, takes_turns, begins, dropped, Delivery, notified, among, without, same_name}
-use Rattle.channel_laws.specs.Rule.{queued_in, open_in, count_in, fresh, IsFree, working, ActorIs, open_of, Talks, AreDelivered, Entries, Holds}
-use Rattle.channel_laws.proofs.Lists.{same_or, self, scan_more, at_changed, get_changed, begins_append, dropped_append, notified_append, only_append, among_append, without_append, same_self, without_both, without_none, others, only_none, only_others, none_others, one_others}
+use Rattle.channel_meaning.specs.History.{Line, Posted, Began, Ended, Dropped, Notified, History, said, arrived, answer_all, delivered, record_all}
+use Rattle.channel_laws.specs.Laws.{scan, Phase, Free, Waiting, Open, Gone, when_free, when_waiting, when_open, talks, takes_turns, begins, dropped, notified, among, without, same_name}
+use Rattle.channel_laws.specs.Rule.{queued_in, open_in, count_in, fresh, IsFree, working, ActorIs, open_of, Talks, Entries, Holds}
+use Rattle.channel_laws.proofs.Lists.{same_or, self, scan_more, at_changed, get_changed, begins_append, dropped_append, only_append, among_append, without_append, same_self, without_both, without_none, others, only_none, only_others, none_others, one_others}
 use Rattle.channel_laws.proofs.Walks.{begun_walked}
-use Rattle.channel_laws.proofs.Changes.{notified_same, said_deliveries, ended_deliveries, deliver_one}
+use Rattle.channel_laws.proofs.Changes.{said_deliveries, ended_deliveries, deliver_one}
 
 -- a line that is not about actor a
 pub record Aside (a : ℕ) (x : Line) : Type 0 where

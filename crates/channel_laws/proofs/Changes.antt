@@ -1,5 +1,5 @@
 -- What keeps the rule: the lines and labels of changes and their deliveries.
-use Rattle.std.proofs.Common.{◌≡◌, ℕ, ◌+◌, Bool, true, false, cond, List, [], ◌∷◌, ◌++◌, refl, sym, ap, ◌∙◌, arith, zero-add, map}
+use Rattle.std.proofs.Common.{◌≡◌, ℕ, ◌+◌, Bool, false, cond, List, [], ◌∷◌, ◌++◌, refl, sym, ap, ◌∙◌, arith, zero-add, map}
 use Rattle.std.specs.Prelude.{count_by}
 use Rattle.std.proofs.lemmas.List.{append_assoc, append-nil}
 use Rattle.std.proofs.lemmas.List.Sums.{sum_by_push, sum_by-cons}
@@ -11,7 +11,7 @@ use Rattle.brs_grammar.specs.Form.{Text}
 use Rattle.world_meaning.specs.Core.{Next, Agenda, Deliveries}
 use Rattle.channel_meaning.specs.History.{Line, Ended, Notified, Change, with_answer, delivered}
 use Rattle.channel_laws.specs.Laws.{Delivery, delivery, notified, begun_where, begun_by}
-use Rattle.channel_laws.specs.Rule.{AllPast, AllUnanswered, AreDelivered, IsLast}
+use Rattle.channel_laws.specs.Rule.{AllPast, AreDelivered, IsLast}
 use Rattle.channel_laws.proofs.Lists.{notified_append}
 
 pub notified_same : (t : List Line) (x : Line) → notified (x ∷ []) ≡ [] → notified (t ++ x ∷ []) ≡ notified t

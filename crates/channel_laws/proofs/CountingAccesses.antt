@@ -1,5 +1,5 @@
 -- What an access leaves within the bounds.
-use Rattle.std.specs.Prelude.{◌-◌, ◌&&◌, slice_get, length, is_some, option_and_then, nat_lt, if◌then◌else◌, codes, ◌≤◌}
+use Rattle.std.specs.Prelude.{◌-◌, slice_get, length, is_some, option_and_then, nat_lt, if◌then◌else◌, codes, ◌≤◌}
 use Rattle.chan_values.specs.Tree.{Words, Tree, Leaf}
 use Rattle.node_tree.specs.Fields.{after_add, has_field}
 use Rattle.node_tree.specs.Family.{inserted, removed, appended}
@@ -13,7 +13,7 @@ use Rattle.world_meaning.specs.Changing.{text_at, words_of, change, set_of, set_
 use Rattle.world_meaning.specs.Control.{copied_m, set_both, set_control, task_of, start, started_with, run_function, run_component, run_task, stop, stop_task, control, is_control, control_if, set_by_kind, live_task_of}
 use Rattle.world_meaning.specs.Making.{numbers_from, below, with_home, m_of, settle_in, settle_kind, settle_each, made_by, make_kind, if_scene}
 use Rattle.world_meaning.specs.Accesses.{add_field, quiet, register_if, observe_by, unobserve, call_interface, call_func, effect}
-use Rattle.std.proofs.Common.{◌≡◌, ℕ, zero, suc, ◌+◌, Bool, true, false, List, [], ◌∷◌, ◌++◌, Option, Some, None, refl, sym, ◌∙◌, subst, arith}
+use Rattle.std.proofs.Common.{◌≡◌, ℕ, zero, suc, ◌+◌, Bool, true, false, List, [], ◌∷◌, ◌++◌, Option, Some, None, refl, sym, subst, arith}
 use Rattle.std.specs.Str.{bytes_eq}
 use Rattle.chan_values.specs.Folded.{folded}
 use Rattle.field_types.specs.declared.types.FieldType.{FieldType}

@@ -1,11 +1,11 @@
 -- What events leave within the bounds.
-use Rattle.std.specs.Prelude.{◌-◌, ◌&&◌, slice_get, length, nat_lt, if◌then◌else◌, ◌≤◌}
+use Rattle.std.specs.Prelude.{slice_get, length, nat_lt, if◌then◌else◌, ◌≤◌}
 use Rattle.brs_meaning.specs.Reduction.{reduce}
 use Rattle.brs_meaning.specs.Program.{Function}
 use Rattle.brs_meaning.specs.Answering.{Reply, Value, state, next_wait}
 use Rattle.world_meaning.specs.Channel.{Channel, function_at, main_of}
 use Rattle.world_meaning.specs.Core.{Actor, Core, Moved, actor_at, change_actor, posts_of}
-use Rattle.std.proofs.Common.{◌≡◌, ℕ, zero, suc, ◌+◌, Bool, true, false, [], ◌∷◌, ◌++◌, Option, Some, None, refl, ◌∙◌, arith}
+use Rattle.std.proofs.Common.{◌≡◌, ℕ, zero, suc, ◌+◌, Bool, true, false, [], ◌∷◌, Option, Some, None, refl, subst, arith}
 use Rattle.chan_values.specs.declared.end_reason.EndReason.{EndReason}
 use Rattle.chan_values.specs.declared.key.Key.{Key}
 use Rattle.message_ports.specs.Messages.{messages_of}
@@ -46,13 +46,16 @@ expire_within : (n : ℕ) (o : Option EndReason) (ch : Channel) (a : ℕ) (c : C
 expire_within n (Some reason) ch a c w = w
 expire_within n None ch a c w = expire_actor_within n ch a (actor_at c a) c w
 
+plus_one : (n : ℕ) → suc n ≡ n + 1
+plus_one n = omega arith
+
 module _ (ch : Channel) (bound events : ℕ) where
   turn_counts : (a n : ℕ) (w : World) → IsCounted events w → IsCounted events (turn ch bound a n w)
   turn_counts a zero w i = i
   turn_counts a (suc n) w i = at_step (turn_counts a n) (step ch a w.core) (step_counts ch a w.steps w.core i.within)
     where
       by_bound : ((v : World) → IsCounted events v → IsCounted events (turn ch bound a n v)) → (m : Moved) (b : Bool) → IsWithin (suc w.steps) m.core → IsCounted events (turned b (turn ch bound a n) m w)
-      by_bound ih m true h = ih (stepped m w) (record { within = h; few_keys = i.few_keys })
+      by_bound ih m true h = ih (stepped m w) (record { within = subst (λ k. IsWithin k m.core) (plus_one w.steps) h; few_keys = i.few_keys })
       by_bound ih m false h = record { within = i.within; few_keys = i.few_keys }
 
       at_step : ((v : World) → IsCounted events v → IsCounted events (turn ch bound a n v)) → (o : Option Moved) → IfWithin (suc w.steps) o → IsCounted events (turned_if bound (turn ch bound a n) o w)

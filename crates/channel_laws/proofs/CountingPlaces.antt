@@ -1,7 +1,7 @@
 -- How many nodes a making makes, and what an answer, an end and a job of actor 0 leave within the bounds.
-use Rattle.std.specs.Prelude.{◌-◌, ◌&&◌, length, if◌then◌else◌, codes, ◌≤◌, nat_le}
+use Rattle.std.specs.Prelude.{slice_set, ◌-◌, length, if◌then◌else◌, codes, ◌≤◌, nat_le}
 use Rattle.chan_values.specs.Tree.{Boolean, Words, Tree, Leaf}
-use Rattle.node_tree.specs.Nodes.{with_fields, changed}
+use Rattle.node_tree.specs.Nodes.{with_fields}
 use Rattle.node_tree.specs.Fields.{fields_after_set, after_set}
 use Rattle.node_tree.specs.Reach.{changed_where}
 use Rattle.focus_keys.specs.KeyText.{text_of}
@@ -11,7 +11,7 @@ use Rattle.brs_meaning.specs.Answering.{Values, Message', put, Reply, Value, Arg
 use Rattle.world_meaning.specs.Channel.{function_of_node, Channel, function_at}
 use Rattle.world_meaning.specs.Core.{homes_of_actor, store_of_actor, waiting_calls, Answer, Another, EntryEnd, Agenda, Deliveries, Inits, Called, Actor, Core, actor_at, change_actor, with_agendas, posts_of, tree_of_actor}
 use Rattle.world_meaning.specs.Making.{below}
-use Rattle.std.proofs.Common.{◌≡◌, ℕ, zero, suc, ◌+◌, Bool, true, false, List, [], ◌∷◌, ◌++◌, Option, Some, None, refl, sym, ap, ◌∙◌, subst, arith}
+use Rattle.std.proofs.Common.{◌≡◌, ℕ, zero, suc, ◌+◌, Bool, true, false, List, [], ◌∷◌, ◌++◌, Option, Some, None, refl, sym, ap, subst, arith}
 use Rattle.chan_values.specs.Folded.{folded}
 use Rattle.chan_values.specs.declared.error_code.ErrorCode.TheVariants.{E9}
 use Rattle.chan_values.specs.declared.key.Key.{Key}
@@ -20,7 +20,6 @@ use Rattle.field_observers.specs.declared.target.Target.{Target}
 use Rattle.message_ports.specs.Messages.{messages_of, with_messages}
 use Rattle.node_tree.specs.declared.node.Node.{Node}
 use Rattle.brs_grammar.specs.Form.{Text}
-use Rattle.world_meaning.specs.Labels.{Visits}
 use Rattle.world_meaning.specs.Ending.{with_state, handed, ended, fail_where, answered_at, answer, is_idle_first, refused_at, refuse}
 use Rattle.world_meaning.specs.Agendas.{Left, Came, TooLarge, settle, finish, call_handler, invalid, settled, returned, takes, visited, finished, topped, call_on_top, deliver_to}
 use Rattle.world_meaning.specs.NodesMade.{nodes_made, most_nodes}
@@ -48,7 +47,7 @@ length_set_at [] i y = refl
 length_set_at (x ∷ xs) zero y = refl
 length_set_at (x ∷ xs) (suc i) y = ap suc (length_set_at xs i y)
 
-length_where : {A : Type 0} (p : ℕ → Bool) (f : A → A) (n : ℕ) (xs : List A) → length (changed_where p f n xs) ≡ length xs
+pub length_where : {A : Type 0} (p : ℕ → Bool) (f : A → A) (n : ℕ) (xs : List A) → length (changed_where p f n xs) ≡ length xs
 length_where p f n [] = refl
 length_where p f n (x ∷ xs) = ap suc (length_where p f (suc n) xs)
 

@@ -1,5 +1,5 @@
 -- No step makes too many nodes, ports or actors, and none posts more than once.
-use Rattle.std.specs.Prelude.{filter, ◌-◌, ◌&&◌, length, nat_lt, if◌then◌else◌, codes, ◌≤◌}
+use Rattle.std.specs.Prelude.{filter, ◌-◌, length, nat_lt, codes, ◌≤◌}
 use Rattle.chan_values.specs.Tree.{Words, PortNumber, Tree, Leaf}
 use Rattle.focus_keys.specs.Chain.{focus_chain}
 use Rattle.brs_meaning.specs.Reduction.{Outcome, Went, Asked, Printed, Raised, Returned, TooBig, Reduced, reduce}
@@ -9,10 +9,9 @@ use Rattle.world_meaning.specs.Core.{Entry, KeyEntry, AccessEntry, LastEntry, na
 use Rattle.world_meaning.specs.Changing.{set_of}
 use Rattle.world_meaning.specs.Making.{below}
 use Rattle.world_meaning.specs.Accesses.{nodes_of, effect}
-use Rattle.std.proofs.Common.{◌≡◌, ℕ, zero, suc, ◌+◌, Bool, true, false, List, [], ◌∷◌, ◌++◌, Option, Some, None, refl, sym, ◌∙◌, subst, arith}
+use Rattle.std.proofs.Common.{◌≡◌, ℕ, zero, suc, ◌+◌, Bool, true, false, List, [], ◌∷◌, ◌++◌, Option, Some, None, refl, sym, subst, arith}
 use Rattle.chan_values.specs.declared.end_reason.EndReason.{EndReason}
 use Rattle.chan_values.specs.declared.error_code.ErrorCode.TheVariants.{E11}
-use Rattle.chan_values.specs.declared.key.Key.{Key}
 use Rattle.chan_values.specs.declared.message.Message.{Message}
 use Rattle.message_ports.specs.Messages.{messages_of, with_messages}
 use Rattle.node_tree.specs.declared.node.Node.{Node}
@@ -22,17 +21,15 @@ use Rattle.trace_report.specs.declared.entry.EntryName.{EntryName}
 use Rattle.brs_grammar.specs.Form.{Text}
 use Rattle.brs_meaning.specs.Running.{Works, Waits}
 use Rattle.brs_meaning.specs.Request.{Access, Make, Scene, Get, Set, Has, Add, ObserveBy, ObserveAt, Unobserve, Append, Insert, Remove, Create, Child, Count, Parent, Find, Focus, HasFocus, InChain, Subtype, CallFunc, Request, Asks, MakePort, Wait, Poll}
-use Rattle.world_meaning.specs.Labels.{Visits}
 use Rattle.world_meaning.specs.Ending.{with_state, handed, hand, ended, end_actor, with_post, fail_where, fail, leave, post_entry, post_last}
 use Rattle.world_meaning.specs.Agendas.{Came, TooLarge, invalid, returned}
 use Rattle.world_meaning.specs.Effect.{Result, Gives, Raises, Jobs, Calls}
 use Rattle.world_meaning.specs.NodesMade.{nodes_made}
 use Rattle.world_meaning.specs.Asking.{make_port, take_message, is_local, set_own_by, made_own, make_own, own_effect, answer_own, access_by, ask, most_ports}
 use Rattle.world_meaning.specs.Entries.{give_to_render, last_of, set_state_by, set_state, begin_entry, closed, end_entry, at_inbox, state_word}
-use Rattle.world_meaning.specs.Steps.{put_back, first_asks, first_shows, if_idle, first_waits, step_first, other_shows, waits, unless, step_other, step_live, step_actor, step_running, step}
+use Rattle.world_meaning.specs.Steps.{put_back, first_asks, first_shows, if_idle, first_waits, step_first, other_shows, waits, unless, step_other, step_live, step_actor, step_running}
 use Rattle.std.proofs.lemmas.Bool.{ltb-true}
 use Rattle.std.proofs.lemmas.List.{length-append}
-use Rattle.node_tree.specs.Subtree.{more}
 use Rattle.node_tree.proofs.Places.{length_changed}
 use Rattle.channel_laws.specs.Counts.{Within, IsWithin, IfWithin, StepCounts}
 use Rattle.channel_laws.proofs.Lists.{at_changed}

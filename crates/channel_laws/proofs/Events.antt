@@ -7,7 +7,6 @@ use Rattle.chan_values.specs.declared.event.Event.{Event}
 use Rattle.chan_values.specs.declared.event.Event.TheVariants as event
 use Rattle.chan_values.specs.declared.key.Key.{Key}
 use Rattle.message_ports.specs.Messages.{messages_of}
-use Rattle.trace_report.specs.declared.entry.EntryName.TheVariants as entry
 use Rattle.brs_meaning.specs.Program.{Function}
 use Rattle.brs_meaning.specs.Running as t
 use Rattle.brs_meaning.specs.Running.{Works, Waits}
@@ -16,14 +15,14 @@ use Rattle.brs_meaning.specs.Answering.{Value, state, is_at_work, next_wait}
 use Rattle.world_meaning.specs.Channel.{Channel, function_at, main_of}
 use Rattle.world_meaning.specs.Labels.{Comes}
 use Rattle.world_meaning.specs.Core as k
-use Rattle.world_meaning.specs.Core.{Entry, KeyEntry, names, Agenda, Deliveries, Inits, Called, Actor, Core, Moved, actor_at, posts_of}
+use Rattle.world_meaning.specs.Core.{KeyEntry, names, Agenda, Deliveries, Inits, Called, Actor, Core, Moved, actor_at, posts_of}
 use Rattle.world_meaning.specs.Ending.{with_state}
 use Rattle.world_meaning.specs.Agendas.{invalid}
 use Rattle.world_meaning.specs.Steps.{step, put_back, is_empty}
 use Rattle.channel_meaning.specs.History.{Change, History, recorded}
 use Rattle.channel_meaning.specs.World.{World, stepped, turned, turned_if, turn, turns_from, key_comes, without_wait, expire_at, expire_actor, expire_running, happens, first_actor, main_actor, opening, after, run}
 use Rattle.channel_laws.specs.Laws.{Free, AllDelivered, Laws}
-use Rattle.channel_laws.specs.Rule.{working, name_of_begun, AllPast, AllUnanswered, Zipped, Holds, Rule, IfMoved, EveryOpening, EveryRun}
+use Rattle.channel_laws.specs.Rule.{name_of_begun, AllPast, AllUnanswered, Zipped, Holds, Rule, IfMoved, EveryOpening, EveryRun}
 use Rattle.channel_laws.proofs.Lists.{names_append}
 use Rattle.channel_laws.proofs.Acts.{FreeNow, key_act}
 use Rattle.channel_laws.proofs.Walks.{all_walked}

@@ -1,6 +1,6 @@
 -- What an end, an answer and a job keep.
 use Rattle.std.proofs.Common.{◌≡◌, ℕ, zero, suc, ◌+◌, Bool, true, false, List, [], ◌∷◌, ◌++◌, Option, Some, None, refl, sym, ap, ◌∙◌, subst}
-use Rattle.std.specs.Prelude.{not, ◌&&◌, slice_get, codes, if◌then◌else◌}
+use Rattle.std.specs.Prelude.{codes}
 use Rattle.chan_values.specs.declared.error_code.ErrorCode.{ErrorCode}
 use Rattle.chan_values.specs.declared.error_code.ErrorCode.TheVariants.{E9}
 use Rattle.chan_values.specs.declared.key.Key.{Key}
@@ -10,7 +10,6 @@ use Rattle.field_observers.specs.declared.target.Target.{Target}
 use Rattle.field_observers.specs.declared.target.Target.TheVariants as target
 use Rattle.field_observers.specs.declared.target.Registration.{Registration}
 use Rattle.node_tree.specs.Nodes.{changed}
-use Rattle.trace_report.specs.declared.entry.EntryName.{EntryName}
 use Rattle.trace_report.specs.declared.entry.EntryName.TheVariants.{Post}
 use Rattle.chan_values.specs.Folded.{folded}
 use Rattle.chan_values.specs.Tree.{Boolean, Words, Leaf}
@@ -22,13 +21,13 @@ use Rattle.brs_meaning.specs.Answering.{Reply, Value, Failed, Arguments, Values,
 use Rattle.world_meaning.specs.Channel.{Channel, function_at, function_of_node}
 use Rattle.world_meaning.specs.Labels.{Label, Posts, Answers, Delivers, Takes}
 use Rattle.world_meaning.specs.Core as k
-use Rattle.world_meaning.specs.Core.{Entry, LastEntry, name_of, names, Closing, Hands, Begun, Init, Next, Answer, Another, EntryEnd, Agenda, Deliveries, Inits, Called, Actor, Core, Moved, moved, followed, actor_at, change_actor, with_agendas, posts_of, home_of_node, tree_of_actor, store_of_actor, homes_of_actor, waiting_calls}
+use Rattle.world_meaning.specs.Core.{Entry, LastEntry, name_of, names, Closing, Hands, Begun, Next, Answer, Another, EntryEnd, Agenda, Deliveries, Inits, Called, Actor, Core, Moved, moved, followed, actor_at, change_actor, with_agendas, posts_of, tree_of_actor, store_of_actor, homes_of_actor, waiting_calls}
 use Rattle.world_meaning.specs.Ending.{with_state, handed_if, handed, ended, end_actor, with_post, post_entry, post_last, fail, fail_where, leave, with_closing, close, is_idle_first, answered_at, answer, refused_at, refuse}
-use Rattle.world_meaning.specs.Agendas.{Left, Came, TooLarge, untaken, settled, settle, settle_with, returned, takes, visited, finished, finish, topped, call_on_top, deliver_to, deliver, call_init, call_handler, visit, invalid, yes}
+use Rattle.world_meaning.specs.Agendas.{Left, Came, TooLarge, untaken, settled, settle, settle_with, returned, takes, visited, finished, finish, topped, call_on_top, deliver_to, deliver, call_handler, invalid, yes}
 use Rattle.channel_meaning.specs.History as l
 use Rattle.channel_meaning.specs.History.{Line, Change, Walk, History, said, answer_newest, change_newest, with_taken, recorded, record_all}
-use Rattle.channel_laws.specs.Laws.{scan, talks, Phase, Free, takes_turns, begins, dropped, notified}
-use Rattle.channel_laws.specs.Rule.{working, ActorIs, Zipped, AreDelivered, Walked, name_of_begun, Holds, Rule}
+use Rattle.channel_laws.specs.Laws.{talks, Phase, Free}
+use Rattle.channel_laws.specs.Rule.{working, Zipped, AreDelivered, Walked, name_of_begun, Holds, Rule}
 use Rattle.channel_laws.proofs.Lists.{scan_more, get_changed, names_append}
 use Rattle.channel_laws.proofs.Changes.{answered_one, left_one}
 use Rattle.channel_laws.proofs.Walks.{taken_walk, refused_walk, untaken_walk}

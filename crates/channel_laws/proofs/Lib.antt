@@ -11,3 +11,4 @@ mod CountingPlaces
 mod CountingAccesses
 mod CountingSteps
 mod CountingEvents
+mod Isolated

@@ -1,5 +1,5 @@
 -- A step that asks for something leaves the actor waiting.
-use Rattle.std.proofs.Common.{◌≡◌, ℕ, Bool, true, false, List, [], ◌∷◌, Option, Some, None, refl}
+use Rattle.std.proofs.Common.{◌≡◌, ℕ, false, List, [], ◌∷◌, Option, Some, None, refl}
 use Rattle.brs_tokens.specs.declared.place.Place as t
 use Rattle.chan_values.specs.declared.place.Place as c
 use Rattle.chan_values.specs.Tree as v
@@ -19,7 +19,7 @@ use Rattle.brs_meaning.specs.Heads.{contract}
 use Rattle.brs_meaning.specs.Statements.{act}
 use Rattle.brs_meaning.specs.Leaving.{leaving}
 use Rattle.brs_meaning.specs.Reduction as r
-use Rattle.brs_meaning.specs.Reduction.{Outcome, Went, Asked, Printed, Raised, Returned, TooBig, Reduced, reduce}
+use Rattle.brs_meaning.specs.Reduction.{Outcome, Went, Asked, Printed, Raised, Returned, TooBig, reduce}
 use Rattle.brs_meaning.specs.Answering.{is_at_work}
 
 abbrev pub IfAsked : Outcome → Tree → Type 0

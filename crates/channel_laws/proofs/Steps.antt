@@ -1,61 +1,52 @@
 -- Each step keeps the rule.
-use Rattle.std.proofs.lemmas.List.Quantifiers.{position-Some}
-use Rattle.std.proofs.lemmas.Option.{slice_get-get_or}
-use Rattle.std.proofs.Common.{◌≡◌, ℕ, zero, suc, ◌+◌, Bool, true, false, List, [], ◌∷◌, ◌++◌, Option, Some, None, refl, sym, ap, ◌∙◌, subst, map}
-use Rattle.std.specs.Prelude.{not, ◌&&◌, filter, slice_get, get_or, drop, position, length, is_some, option_and_then, nat_lt, if◌then◌else◌, codes}
-use Rattle.std.specs.Str.{bytes_eq}
+use Rattle.std.proofs.Common.{◌≡◌, ℕ, zero, suc, ◌+◌, Bool, true, false, List, [], ◌∷◌, Option, Some, None, refl, sym, ap, ◌∙◌, subst}
+use Rattle.std.specs.Prelude.{◌&&◌, filter, slice_get, length, nat_lt, codes}
 use Rattle.chan_values.specs.Folded.{folded}
 use Rattle.chan_values.specs.declared.end_reason.EndReason.{EndReason}
 use Rattle.chan_values.specs.declared.error_code.ErrorCode.TheVariants.{E11}
 use Rattle.chan_values.specs.declared.key.Key.{Key}
 use Rattle.chan_values.specs.declared.message.Message.{Message}
-use Rattle.chan_values.specs.Tree.{Words, NodeNumber, PortNumber, Tree, Leaf}
+use Rattle.chan_values.specs.Tree.{Words, PortNumber, Tree, Leaf}
 use Rattle.field_types.specs.declared.types.FieldType.{FieldType}
 use Rattle.field_types.specs.Words.{type_words, type_beside}
-use Rattle.field_observers.specs.declared.target.Target.{Target}
 use Rattle.message_ports.specs.Messages.{messages_of}
 use Rattle.node_tree.specs.declared.node.Node.{Node}
 use Rattle.node_tree.specs.Nodes.{changed}
-use Rattle.node_tree.specs.Fields.{after_set, has_field}
 use Rattle.node_tree.specs.declared.answers.SetResult.{SetResult}
 use Rattle.node_tree.specs.declared.answers.SetResult.TheVariants.{NoField, NoFit, Same, Changed}
 use Rattle.trace_report.specs.declared.entry.EntryName.{EntryName}
 use Rattle.trace_report.specs.declared.entry.EntryName.TheVariants as entry
 use Rattle.brs_grammar.specs.Form.{Text}
-use Rattle.brs_meaning.specs.Program.{Function}
 use Rattle.brs_meaning.specs.Running as t
 use Rattle.brs_meaning.specs.Running.{Works, Waits}
 use Rattle.brs_meaning.specs.Request.{Access, Make, Scene, Get, Set, Has, Add, ObserveBy, ObserveAt, Unobserve, Append, Insert, Remove, Create, Child, Count, Parent, Find, Focus, HasFocus, InChain, Subtype, CallFunc, Request, Asks, MakePort, Wait, Poll}
 use Rattle.brs_meaning.specs.Reduction.{Outcome, Went, Asked, Printed, Raised, Returned, TooBig, Reduced, reduce}
 use Rattle.brs_meaning.specs.Answering.{Reply, Value, Values, Told, state, is_idle, is_at_work, want_place, want_home}
 use Rattle.focus_keys.specs.Chain.{focus_chain}
-use Rattle.world_meaning.specs.Channel.{Channel, Component, handles_keys, component_at, kind_named, kind_of_node, has_interface, function_at}
-use Rattle.world_meaning.specs.Labels.{Begins, Ends, Starts, Stops, Drops, Changes, Answers, Walks, Visits}
+use Rattle.world_meaning.specs.Channel.{Channel, handles_keys, kind_named}
+use Rattle.world_meaning.specs.Labels.{Begins, Ends, Walks, Visits}
 use Rattle.world_meaning.specs.Core as k
-use Rattle.world_meaning.specs.Core.{Entry, KeyEntry, AccessEntry, LastEntry, name_of, names, only, without_posts, is_post_of, Closing, Hands, GoesBack, Begun, Next, Answer, Another, EntryEnd, Agenda, Deliveries, Inits, Called, Actor, Core, Moved, moved, followed, actor_at, change_actor, with_agendas, posts_of, tree_of_actor, home_of_node}
-use Rattle.world_meaning.specs.Ending.{with_state, handed, hand, ended, end_actor, with_post, fail_where, fail_asking, asking_place}
-use Rattle.world_meaning.specs.Agendas.{Left, Came, TooLarge, settle, finish, deliver, call_init, call_handler, visit, invalid, yes}
-use Rattle.world_meaning.specs.Effect.{Result, Gives, Raises, Jobs, Calls, Effect, follow, serve}
-use Rattle.world_meaning.specs.Changing.{words_of, change, set_of, set_by, set}
-use Rattle.world_meaning.specs.Control.{set_both, set_control, and_set, task_of, start, started_with, run_function, run_component, run_task, stop, stop_task, control, is_control, control_if, set_by_kind, set_field, is_of_node, live_task_of}
+use Rattle.world_meaning.specs.Core.{Entry, KeyEntry, AccessEntry, LastEntry, name_of, names, Closing, Hands, GoesBack, Begun, EntryEnd, Agenda, Deliveries, Inits, Called, Actor, Core, Moved, moved, actor_at, change_actor, with_agendas, posts_of, tree_of_actor, home_of_node}
+use Rattle.world_meaning.specs.Ending.{with_state, handed, hand}
+use Rattle.world_meaning.specs.Agendas.{Came, TooLarge, settle, call_handler, invalid}
+use Rattle.world_meaning.specs.Effect.{Result, Gives, Raises, Jobs, Calls, Effect}
+use Rattle.world_meaning.specs.Changing.{set_of}
 use Rattle.world_meaning.specs.NodesMade.{nodes_made}
-use Rattle.world_meaning.specs.Making.{with_home, m_of, settle_in, settle_kind, settle_each, begin_inits, made_by, make_kind, make, if_scene, make_scene}
-use Rattle.world_meaning.specs.Accesses.{add_field, quiet, register_if, observe_by, unobserve, call_interface, call_func, effect}
-use Rattle.world_meaning.specs.Asking.{make_port, take_message, is_local, set_own_by, made_own, make_own, own_effect, answer_own, access_own, post, access_by, ask_port, ask, most_ports}
+use Rattle.world_meaning.specs.Accesses.{add_field, effect}
+use Rattle.world_meaning.specs.Asking.{make_port, take_message, is_local, set_own_by, made_own, make_own, own_effect, answer_own, access_own, post, access_by, ask, most_ports}
 use Rattle.world_meaning.specs.Entries.{begin_key, give_to_render, last_of, set_state_by, set_state, begin_entry, begin, closed, end_entry, at_inbox, state_word}
 use Rattle.world_meaning.specs.Steps.{put_back, first_asks, first_shows, if_idle, first_waits, step_first, other_shows, waits, unless, step_other, step_live, step_actor, step_running, step}
-use Rattle.channel_meaning.specs.World.{first_actor as some_actor}
 use Rattle.channel_meaning.specs.History as l
-use Rattle.channel_meaning.specs.History.{Walk, History, change_newest, with_visit, said, recorded, record_all}
+use Rattle.channel_meaning.specs.History.{Walk, History, change_newest, with_visit, recorded, record_all}
 use Rattle.channel_laws.specs.Laws.{scan, talks, Phase, Free, Waiting, Open, Gone}
-use Rattle.channel_laws.specs.Rule.{IsFree, working, ActorIs, IsLast, AllDone, Walked, name_of_begun, Holds, Rule, IfMoved}
-use Rattle.channel_laws.proofs.Lists.{at_changed, get_changed, names_without_posts}
+use Rattle.channel_laws.specs.Rule.{IsFree, working, AllDone, Walked, name_of_begun, Holds, Rule, IfMoved}
+use Rattle.channel_laws.proofs.Lists.{at_changed, get_changed}
 use Rattle.channel_laws.proofs.Walks.{begun_walk, visited_walk}
-use Rattle.channel_laws.proofs.Changes.{change_delivered, local_delivered}
-use Rattle.channel_laws.proofs.Acts.{FreeNow, quiet as said_quiet, actors_change, first_changes, own_changes, over_changes, other_changes, begin_act, end_act, drop_act}
+use Rattle.channel_laws.proofs.Changes.{local_delivered}
+use Rattle.channel_laws.proofs.Acts.{FreeNow, actors_change, own_changes, other_changes, begin_act, end_act}
 use Rattle.channel_laws.proofs.Outcomes.{IfAsked, asking_waits}
-use Rattle.channel_laws.proofs.Keeping.{Keeps, With, followed_keeps, followed_at, quiet_print, quiet_start, quiet_stop, quiet_here, walks_change, with_agenda, busy_same, first_actor, posts_handed, answer_keeps, fail_first, fail_first_where, refuse_keeps, post_keeps, fail_keeps, fail_where_keeps, leave_keeps, settle_keeps, finish_keeps, call_keeps, deliver_keeps, visit_keeps}
-use Rattle.channel_laws.proofs.Accesses.{serve_keeps, change_keeps, add_keeps, effect_keeps}
+use Rattle.channel_laws.proofs.Keeping.{Keeps, With, followed_keeps, followed_at, quiet_print, quiet_here, walks_change, with_agenda, first_actor, posts_handed, fail_first, fail_first_where, post_keeps, fail_keeps, fail_where_keeps, leave_keeps, settle_keeps, finish_keeps, call_keeps, deliver_keeps, visit_keeps}
+use Rattle.channel_laws.proofs.Accesses.{serve_keeps, change_keeps, effect_keeps}
 
 -- ---- actor 0
 

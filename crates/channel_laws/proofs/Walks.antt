@@ -1,5 +1,5 @@
 -- What keeps the rule of key walks: how a walk begins, goes on and is over.
-use Rattle.std.proofs.Common.{◌≡◌, ℕ, Bool, true, false, List, [], ◌∷◌, ◌++◌, Option, Some, None, refl, sym, ap, ◌∙◌, subst, inl, inr, ◌⊎◌, map}
+use Rattle.std.proofs.Common.{◌≡◌, ℕ, Bool, true, false, List, [], ◌∷◌, ◌++◌, Option, Some, None, refl, sym, ap, ◌∙◌, subst, inl, inr, map}
 use Rattle.std.proofs.lemmas.List.{append_assoc, append-nil, map-append}
 use Rattle.trace_report.specs.declared.entry.EntryName.{EntryName}
 use Rattle.trace_report.specs.declared.entry.EntryName.TheVariants.{Key}
@@ -7,8 +7,8 @@ use Rattle.chan_values.specs.declared.key.Key.{Key as OneKey}
 use Rattle.world_meaning.specs.Core as k
 use Rattle.world_meaning.specs.Core.{Agenda, Deliveries, Inits, Called}
 use Rattle.channel_meaning.specs.History.{Visit, Walk, change_newest, with_visit, change_last, with_taken}
-use Rattle.channel_laws.specs.Laws.{AllRefused, visited_nodes, IsWalk, IsOver, AllWalked}
-use Rattle.channel_laws.specs.Rule.{IsAt, IsDone, AllDone, Walked}
+use Rattle.channel_laws.specs.Laws.{AllRefused, visited_nodes, IsWalk, AllWalked}
+use Rattle.channel_laws.specs.Rule.{IsAt, AllDone, Walked}
 
 -- where no entry has begun, nothing is left of a walk
 pub begun_walked : (G : List Agenda) (E : Option EntryName) (ws : List Walk) → Walked G None ws → Walked G E ws

@@ -1,5 +1,6 @@
 //! The laws of every run, and the rule from which they follow.
 ghost use Rattle.channel_laws.specs.Counts.{EventCounts, OpeningCounts, StepCounts};
+ghost use Rattle.channel_laws.specs.Isolation.{EveryOtherStep};
 ghost use Rattle.channel_laws.specs.Rule.{EveryRun, EveryOpening, EveryStepKeeps, EveryEventKeeps};
 
 /// Of every run: each actor's posts are numbered from 1 and begin in their order, each at most once and after its post, or are dropped
@@ -31,4 +32,10 @@ pub fn every_count()
     ensures opening { OpeningCounts }
     ensures step { StepCounts }
     ensures event { EventCounts }
+{}
+
+/// A step of another actor than 0 leaves actor 0 in place, with all that it has to do, and the registrations and the focus; and where it
+/// posts, it changes no node at all.
+pub fn every_other_step()
+    ensures { EveryOtherStep }
 {}

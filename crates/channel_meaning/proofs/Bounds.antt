@@ -7,7 +7,7 @@ use Rattle.chan_values.specs.declared.event.Event.{Event}
 use Rattle.chan_values.specs.declared.event.Event.TheVariants as event
 use Rattle.chan_values.specs.declared.key.Key.{Key}
 use Rattle.world_meaning.specs.Channel.{Channel}
-use Rattle.world_meaning.specs.Core.{Moved, actor_at}
+use Rattle.world_meaning.specs.Core.{Moved}
 use Rattle.world_meaning.specs.Steps.{step_running, step}
 use Rattle.channel_meaning.specs.World.{World, stepped, turned, turned_if, turn, turns_from, key_comes, expire_running, happens, after, run, opening}
 

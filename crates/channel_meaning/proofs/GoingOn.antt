@@ -8,14 +8,13 @@ use Rattle.chan_values.specs.declared.end_reason.EndReason.TheVariants as why
 use Rattle.chan_values.specs.declared.event.Event.{Event}
 use Rattle.chan_values.specs.declared.event.Event.TheVariants as event
 use Rattle.chan_values.specs.declared.key.Key.{Key}
-use Rattle.trace_report.specs.declared.entry.EntryName.{EntryName}
 use Rattle.trace_report.specs.TraceText.{end_line}
 use Rattle.world_meaning.specs.Channel.{Channel}
 use Rattle.world_meaning.specs.Labels.{Label, Prints, Fails, Returns, Comes, Posts, Begins, Ends, Starts, Stops, Drops, Changes, Delivers, Answers, Walks, Visits, Takes}
 use Rattle.world_meaning.specs.Core.{Moved}
 use Rattle.world_meaning.specs.Steps.{step}
 use Rattle.channel_meaning.specs.History.{Line, Change, History, answer_newest, recorded, record_all}
-use Rattle.channel_meaning.specs.World.{World, stepped, turned, turned_if, turn, turns_from, round, key_comes, happens, after, run, opening}
+use Rattle.channel_meaning.specs.World.{World, stepped, turned, turned_if, turn, turns_from, key_comes, happens, after, run, opening}
 use Rattle.channel_meaning.specs.Report.{report}
 use Rattle.channel_meaning.specs.RunText.{line_text, trace_bytes, run_text}
 use Rattle.channel_meaning.specs.Going.{GoesOn, BeginsWith}

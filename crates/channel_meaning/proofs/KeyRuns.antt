@@ -1,6 +1,6 @@
 -- Runs with keys, ports and waits that are worked out by hand.
 use lib.Utf8.{encode}
-use Rattle.std.specs.Prelude.{◌≡◌, ℕ, true, false, List, [], ◌∷◌, Option, Some, None, codes}
+use Rattle.std.specs.Prelude.{◌≡◌, true, false, List, [], ◌∷◌, Some, None, codes}
 use Rattle.std.specs.Str.{chars, is_utf8}
 use Rattle.std.specs.Fmt.{digits}
 use Rattle.std.specs.Int.{int_wrap}
@@ -16,10 +16,10 @@ use Rattle.field_types.specs.Words.{is_alike}
 use Rattle.trace_report.specs.declared.entry.EntryName.TheVariants as entry
 use Rattle.brs_grammar.specs.declared.tree.ComparisonSign.TheVariants as sign
 use Rattle.brs_grammar.specs.Form as f
-use Rattle.brs_grammar.specs.Form.{Text, Form, Node, none, more, Params, unnamed, required, Todo, finish, first}
+use Rattle.brs_grammar.specs.Form.{Form, Node, Params, unnamed, required, Todo, finish, first}
 use Rattle.brs_grammar.specs.Parts.{forms}
 use Rattle.world_meaning.specs.Channel.{Channel}
-use Rattle.channel_meaning.specs.History.{Line, Printed, Failed, Returned, Posted, Began, Ended, Started, Notified, Visited}
+use Rattle.channel_meaning.specs.History.{Printed, Failed, Returned, Posted, Began, Ended, Started, Notified, Visited}
 use Rattle.channel_meaning.specs.World.{World, run}
 use Rattle.channel_meaning.proofs.Sources as s
 
@@ -53,7 +53,7 @@ pub pressing : (run_of focused (Round 100 ∷ Round 100 ∷ Key key.Up true ∷ 
 unfolding chars is_utf8 encode digits int_wrap unfolded is_alike
 pressing = refl
 
-an_untaken_back : (run_of focused (Round 100 ∷ Round 100 ∷ Key key.Up true ∷ Turn 0 100 ∷ Key key.Back true ∷ Turn 0 100 ∷ [])).core.ending ≡ Some why.Back
+pub an_untaken_back : (run_of focused (Round 100 ∷ Round 100 ∷ Key key.Up true ∷ Turn 0 100 ∷ Key key.Back true ∷ Turn 0 100 ∷ [])).core.ending ≡ Some why.Back
 unfolding chars is_utf8 encode digits int_wrap unfolded is_alike
 an_untaken_back = refl
 
@@ -89,7 +89,7 @@ listening =
     (s.component 1 (Some 1) [] [] ∷ [])
 
 -- a wait with the time 0 doesn't expire
-a_message_and_a_wait :
+pub a_message_and_a_wait :
     (run_of listening (Round 100 ∷ Round 100 ∷ Round 100 ∷ Round 100 ∷ Expire 1 ∷ Expire 2 ∷ Round 100 ∷ Turn 0 100 ∷ [])).history.trace
     ≡ Posted 1 1 ∷ Began (entry.Post 1 1) ∷ Ended (entry.Post 1 1)
     ∷ Posted 1 2 ∷ Began (entry.Post 1 2) ∷ Started 2 2 ∷ Ended (entry.Post 1 2)
@@ -107,10 +107,10 @@ waiting_init =
     (s.plan (codes "Slow") (Some 0) [] [] 1 ∷ [])
     (s.component 1 (Some 1) [] [] ∷ [])
 
-an_init_that_waits : (run_of waiting_init (Round 100 ∷ Round 100 ∷ [])).history.trace ≡ Posted 1 1 ∷ Began (entry.Post 1 1) ∷ Failed 0 E10 (record { path = 0; line = 2 }) ∷ []
+pub an_init_that_waits : (run_of waiting_init (Round 100 ∷ Round 100 ∷ [])).history.trace ≡ Posted 1 1 ∷ Began (entry.Post 1 1) ∷ Failed 0 E10 (record { path = 0; line = 2 }) ∷ []
 unfolding chars is_utf8 encode digits int_wrap unfolded is_alike
 an_init_that_waits = refl
 
-an_error_of_actor_0 : (run_of waiting_init (Round 100 ∷ Round 100 ∷ [])).core.ending ≡ Some why.Error
+pub an_error_of_actor_0 : (run_of waiting_init (Round 100 ∷ Round 100 ∷ [])).core.ending ≡ Some why.Error
 unfolding chars is_utf8 encode digits int_wrap unfolded is_alike
 an_error_of_actor_0 = refl

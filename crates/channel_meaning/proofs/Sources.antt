@@ -1,5 +1,5 @@
 -- Channels for runs that are worked out by hand: their code as trees, and their tables.
-use Rattle.std.specs.Prelude.{ℕ, pos, Bool, true, false, List, [], ◌∷◌, ◌++◌, map, cond, ◌==◌, Option, Some, None, slice_get, codes}
+use Rattle.std.specs.Prelude.{ℕ, pos, Bool, false, List, [], ◌∷◌, ◌++◌, map, cond, ◌==◌, Option, Some, None, slice_get, codes}
 use Rattle.std.specs.Str.{bytes_eq}
 use Rattle.brs_tokens.specs.declared.place.Place as t
 use Rattle.chan_values.specs.declared.portable.Portable.TheVariants as p
@@ -10,7 +10,7 @@ use Rattle.field_types.specs.declared.plans.ChildPlan.{ChildPlan}
 use Rattle.field_types.specs.declared.plans.KindPlan.{KindPlan}
 use Rattle.heap_meaning.specs.Values.{Entry}
 use Rattle.brs_grammar.specs.Form as f
-use Rattle.brs_grammar.specs.Form.{Text, Head, Form, Node, Forms, none, more, Params, unnamed, required, Todo, finish, first}
+use Rattle.brs_grammar.specs.Form.{Text, Form, Node, none, more, Params, unnamed, Todo, finish, first}
 use Rattle.brs_grammar.specs.Parts.{forms}
 use Rattle.brs_meaning.specs.Program.{Function, Scope}
 use Rattle.world_meaning.specs.Channel.{Channel, Component}

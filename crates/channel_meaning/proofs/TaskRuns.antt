@@ -1,12 +1,12 @@
 -- Runs of a task that are worked out by hand, line by line of the transcript.
 use lib.Utf8.{encode}
-use Rattle.std.specs.Prelude.{◌≡◌, ℕ, true, false, List, [], ◌∷◌, Option, Some, None, codes}
+use Rattle.std.specs.Prelude.{◌≡◌, true, false, List, [], ◌∷◌, Some, codes}
 use Rattle.std.specs.Str.{chars, is_utf8}
 use Rattle.std.specs.Fmt.{digits}
 use Rattle.std.specs.Int.{int_wrap}
 use Rattle.std.proofs.Common.{refl}
 use Rattle.chan_values.specs.declared.event.Event.{Event}
-use Rattle.chan_values.specs.declared.event.Event.TheVariants.{Key, Turn, Round, Expire}
+use Rattle.chan_values.specs.declared.event.Event.TheVariants.{Key, Turn, Round}
 use Rattle.chan_values.specs.declared.key.Key.TheVariants as key
 use Rattle.copy_meaning.specs.Answers.{unfolded}
 use Rattle.field_types.specs.Words.{is_alike}
@@ -50,7 +50,7 @@ unfolding chars is_utf8 encode digits int_wrap unfolded is_alike
 a_making = refl
 
 -- a task's life: its start, its post while a key waits behind it, its return, and its last entry
-a_life :
+pub a_life :
     trace_of (worker (starting waiting))
     (Turn 1 100 ∷ Turn 0 100 ∷ Turn 1 100 ∷ Turn 0 100 ∷ Key key.Ok true ∷ Turn 2 100 ∷ Turn 2 100 ∷ Turn 0 100 ∷ Turn 2 100 ∷ Turn 0 100 ∷ [])
     ≡ Posted 1 1 ∷ Began (entry.Post 1 1) ∷ Ended (entry.Post 1 1)
@@ -61,7 +61,7 @@ unfolding chars is_utf8 encode digits int_wrap unfolded is_alike
 a_life = refl
 
 -- a stop before the task's access has begun drops it: the node keeps its value
-a_drop :
+pub a_drop :
     trace_of (worker (starting (s.put (s.name (codes "w")) (codes "control") (s.text (codes "\"STOP\"")) waiting)))
     (Round 100 ∷ Round 100 ∷ Turn 0 100 ∷ Turn 1 100 ∷ Turn 2 100 ∷ Turn 0 100 ∷ [])
     ≡ Posted 1 1 ∷ Began (entry.Post 1 1) ∷ Ended (entry.Post 1 1)
@@ -78,7 +78,7 @@ halting =
     (s.plan (codes "Worker") (Some 2) (s.number_field (codes "n") false ∷ []) [] 1 ∷ [])
     (s.component 1 (Some 1) (record { key = codes "n"; value = codes "halt" } ∷ []) [] ∷ [])
 
-a_stop_of_a_begun_access :
+pub a_stop_of_a_begun_access :
     trace_of halting (Turn 1 100 ∷ Turn 0 100 ∷ Turn 1 100 ∷ Turn 0 100 ∷ Turn 2 100 ∷ Turn 0 100 ∷ Turn 2 100 ∷ [])
     ≡ Posted 1 1 ∷ Began (entry.Post 1 1) ∷ Ended (entry.Post 1 1)
     ∷ Posted 1 2 ∷ Began (entry.Post 1 2) ∷ Started 2 2 ∷ Ended (entry.Post 1 2)
@@ -98,7 +98,7 @@ quick =
 abbrev restarting : List Event
 restarting = Turn 1 100 ∷ Turn 0 100 ∷ Turn 1 100 ∷ Turn 0 100 ∷ Turn 1 100 ∷ Turn 2 100 ∷ Turn 0 100 ∷ []
 
-a_restart :
+pub a_restart :
     trace_of quick restarting
     ≡ Posted 1 1 ∷ Began (entry.Post 1 1) ∷ Ended (entry.Post 1 1)
     ∷ Posted 1 2 ∷ Began (entry.Post 1 2) ∷ Started 2 2 ∷ Ended (entry.Post 1 2)
@@ -107,7 +107,7 @@ a_restart :
 unfolding chars is_utf8 encode digits int_wrap unfolded is_alike
 a_restart = refl
 
-still_running : text_at (run quick 1000 restarting).core.nodes 2 (codes "state") ≡ codes "run"
+pub still_running : text_at (run quick 1000 restarting).core.nodes 2 (codes "state") ≡ codes "run"
 unfolding chars is_utf8 encode digits int_wrap unfolded is_alike
 still_running = refl
 
@@ -119,12 +119,12 @@ lost =
     (s.plan (codes "Worker") (Some 2) [] [] 1 ∷ [])
     (s.component 1 (Some 1) [] [] ∷ [])
 
-a_function_that_is_not_there :
+pub a_function_that_is_not_there :
     trace_of lost (Turn 1 100 ∷ Turn 0 100 ∷ Turn 1 100 ∷ Turn 0 100 ∷ [])
     ≡ Posted 1 1 ∷ Began (entry.Post 1 1) ∷ Ended (entry.Post 1 1) ∷ Posted 1 2 ∷ Began (entry.Post 1 2) ∷ Ended (entry.Post 1 2) ∷ []
 unfolding chars is_utf8 encode digits int_wrap unfolded is_alike
 a_function_that_is_not_there = refl
 
-stopped_at_once : text_at (run lost 1000 (Turn 1 100 ∷ Turn 0 100 ∷ Turn 1 100 ∷ Turn 0 100 ∷ [])).core.nodes 2 (codes "state") ≡ codes "stop"
+pub stopped_at_once : text_at (run lost 1000 (Turn 1 100 ∷ Turn 0 100 ∷ Turn 1 100 ∷ Turn 0 100 ∷ [])).core.nodes 2 (codes "state") ≡ codes "stop"
 unfolding chars is_utf8 encode digits int_wrap unfolded is_alike
 stopped_at_once = refl

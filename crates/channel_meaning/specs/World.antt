@@ -6,13 +6,12 @@ use Rattle.chan_values.specs.declared.event.Event.{Event}
 use Rattle.chan_values.specs.declared.event.Event.TheVariants as event
 use Rattle.chan_values.specs.declared.key.Key.{Key}
 use Rattle.brs_meaning.specs.Reduction.{reduce}
-use Rattle.brs_meaning.specs.Answering.{Value, state, next_wait}
+use Rattle.brs_meaning.specs.Answering.{Value, next_wait, Start}
 use Rattle.heap_meaning.specs.Values.{Reference}
 use Rattle.heap_meaning.specs.Store.{MapObject}
 use Rattle.message_ports.specs.Messages.{messages_of}
 use Rattle.node_tree.specs.Making.{new_node}
 use Rattle.brs_meaning.specs.Program.{Function}
-use Rattle.brs_meaning.specs.Answering.{Start}
 use Rattle.brs_meaning.specs.Running.{Waits}
 use Rattle.world_meaning.specs.Channel.{Channel, function_at, main_of}
 use Rattle.world_meaning.specs.Labels.{Comes}

@@ -1,6 +1,6 @@
 -- A tree that was made a portable value is that tree.
-use Rattle.std.proofs.Common.{◌≡◌, ℕ, suc, List, [], ◌∷◌, length, refl, ap, ◌∙◌, arith}
-use Rattle.chan_values.specs.Tree.{Plain, Invalid, Boolean, Integer, LongInteger, Words, NodeNumber, PortNumber, Kind, Array, Keyed, Tree, Leaf, Branch, Trees, none, more, trees, count_of, keys_of, values_of}
+use Rattle.std.proofs.Common.{◌≡◌, List, [], ◌∷◌, length, refl, ap, ◌∙◌, arith}
+use Rattle.chan_values.specs.Tree.{Plain, Invalid, Boolean, Integer, LongInteger, Words, NodeNumber, PortNumber, Array, Keyed, Tree, Leaf, Branch, Trees, none, more, trees, count_of, keys_of, values_of}
 use Rattle.chan_values.specs.Portable.{KeepsKeys}
 use Rattle.chan_values.specs.View.{tree_of}
 use Rattle.brs_grammar.specs.Form.{Text}

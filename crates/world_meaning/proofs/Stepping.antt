@@ -10,7 +10,7 @@ use Rattle.world_meaning.specs.Core as k
 use Rattle.world_meaning.specs.Core.{Entry, Closing, Begun, Agenda, Deliveries, Inits, Called, Actor, Core, Moved, actor_at}
 use Rattle.world_meaning.specs.Entries.{end_entry, at_inbox}
 use Rattle.world_meaning.specs.Steps.{if_idle, first_waits, step_first, unless, waits, step_other, step_live, step_actor, step_running, step}
-use Rattle.world_meaning.specs.CanStep.{has_job, has_entry, is_none, first_can, other_can, can_by_number, actor_can, can_step}
+use Rattle.world_meaning.specs.CanStep.{has_job, has_entry, is_none, first_can, can_by_number, actor_can, can_step}
 
 end_can : (name : EntryName) (o : Option Closing) (c : Core) → is_some (end_entry name o c) ≡ is_some o
 end_can name None c = refl

@@ -1,5 +1,5 @@
 -- What each access does, a row for each.
-use Rattle.std.specs.Prelude.{ℕ, ℤ, pos, Bool, true, false, ◌==◌, List, [], ◌∷◌, ◌++◌, length, filter, is_some, Option, Some, None, option_and_then, unwrap_or, slice_get, if◌then◌else◌}
+use Rattle.std.specs.Prelude.{ℕ, pos, Bool, true, false, List, [], ◌∷◌, ◌++◌, length, filter, is_some, Option, Some, None, unwrap_or, if◌then◌else◌}
 use Rattle.chan_values.specs.Folded.{folded}
 use Rattle.chan_values.specs.Tree.{Integer, Words, NodeNumber, Tree, Leaf, trees}
 use Rattle.field_types.specs.declared.types.FieldType.{FieldType}

@@ -1,5 +1,5 @@
 -- What actors other than 0 ask for: at their own nodes it is done at once, and else posted. Ports are everyone's.
-use Rattle.std.specs.Prelude.{ℕ, ◌+◌, Bool, true, false, ◌&&◌, ◌||◌, ◌==◌, List, [], ◌∷◌, ◌++◌, length, Option, Some, None, option_and_then, nat_lt, codes, if◌then◌else◌}
+use Rattle.std.specs.Prelude.{ℕ, ◌+◌, Bool, true, false, ◌&&◌, ◌||◌, List, [], ◌∷◌, ◌++◌, length, Option, Some, None, nat_lt, codes}
 use Rattle.chan_values.specs.declared.error_code.ErrorCode.TheVariants.{E11}
 use Rattle.chan_values.specs.declared.message.Message.{Message}
 use Rattle.chan_values.specs.Folded.{folded}
@@ -13,14 +13,14 @@ use Rattle.node_tree.specs.declared.answers.SetResult.TheVariants.{NoField, NoFi
 use Rattle.node_tree.specs.Fields.{after_set}
 use Rattle.message_ports.specs.Messages.{messages_of, with_messages}
 use Rattle.brs_grammar.specs.Form.{Text}
-use Rattle.brs_meaning.specs.Request.{Access, Make, Scene, Get, Set, Has, Add, Append, Insert, Remove, Create, Child, Count, Parent, Find, Subtype, Request, Asks, MakePort, Wait, Poll}
+use Rattle.brs_meaning.specs.Request.{Access, Make, Get, Set, Has, Add, Append, Insert, Remove, Create, Child, Count, Parent, Find, Subtype, Request, Asks, MakePort, Wait, Poll}
 use Rattle.brs_meaning.specs.Answering.{Value, Told}
 use Rattle.world_meaning.specs.Channel.{Channel, kind_named}
 use Rattle.world_meaning.specs.Labels.{Changes, Answers}
 use Rattle.world_meaning.specs.Core.{AccessEntry, Core, Moved, moved, followed, actor_at, posts_of}
 use Rattle.world_meaning.specs.Ending.{hand, fail_asking, post_entry}
 use Rattle.world_meaning.specs.Agendas.{invalid}
-use Rattle.world_meaning.specs.Effect.{Result, Gives, Raises, Jobs, Calls, Effect, gives, tells, raises}
+use Rattle.world_meaning.specs.Effect.{Result, Gives, Raises, Effect, gives, tells, raises}
 use Rattle.world_meaning.specs.Changing.{value_at, set_of}
 use Rattle.world_meaning.specs.Making.{below}
 use Rattle.world_meaning.specs.Accesses.{quiet}

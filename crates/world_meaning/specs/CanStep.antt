@@ -4,7 +4,7 @@ use Rattle.brs_meaning.specs.Running.{Tree}
 use Rattle.brs_meaning.specs.Answering.{is_idle, is_at_work}
 use Rattle.world_meaning.specs.Channel.{Channel}
 use Rattle.world_meaning.specs.Core as k
-use Rattle.world_meaning.specs.Core.{Entry, Begun, Agenda, Deliveries, Inits, Called, Actor, Core, actor_at}
+use Rattle.world_meaning.specs.Core.{Entry, Begun, Agenda, Deliveries, Inits, Actor, Core, actor_at}
 use Rattle.world_meaning.specs.Steps.{waits}
 
 -- the place of the innermost access or entry has a job that can begin

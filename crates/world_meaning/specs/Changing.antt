@@ -1,5 +1,5 @@
 -- Counted changes: a set of a field that its observers hear of.
-use Rattle.std.specs.Prelude.{ℕ, true, false, List, [], ◌∷◌, Option, Some, None, unwrap_or, codes}
+use Rattle.std.specs.Prelude.{ℕ, true, false, List, [], ◌∷◌, unwrap_or, codes}
 use Rattle.chan_values.specs.Folded.{folded}
 use Rattle.chan_values.specs.declared.message.Message.{Message}
 use Rattle.chan_values.specs.Tree.{Words, Tree, Leaf}

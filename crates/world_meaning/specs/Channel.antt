@@ -1,5 +1,5 @@
 -- A channel as its folder's tables give it: its functions and scopes, how nodes of each kind are made, and what each component says.
-use Rattle.std.specs.Prelude.{ℕ, Bool, false, List, [], ◌∷◌, length, map, filter, position, is_some, flat_map, filter_map, Option, Some, None, option_and_then, option_map, slice_get, codes}
+use Rattle.std.specs.Prelude.{ℕ, Bool, false, List, length, position, is_some, flat_map, filter_map, Option, Some, None, option_and_then, option_map, slice_get, codes}
 use Rattle.std.specs.List.{list_any}
 use Rattle.std.specs.Str.{bytes_eq}
 use Rattle.chan_values.specs.Folded.{folded}

@@ -1,15 +1,14 @@
 -- Task nodes: what a set of `control` starts and stops.
-use Rattle.std.specs.Prelude.{ℕ, suc, Bool, true, false, ◌&&◌, ◌==◌, not, List, [], ◌∷◌, ◌++◌, length, map, drop, position, Option, Some, None, option_and_then, option_map, codes, nat_lt, if◌then◌else◌}
+use Rattle.std.specs.Prelude.{ℕ, suc, Bool, true, false, ◌&&◌, ◌==◌, List, [], ◌∷◌, ◌++◌, length, map, drop, position, Option, Some, None, option_and_then, codes, nat_lt, if◌then◌else◌}
 use Rattle.std.specs.Str.{bytes_eq}
 use Rattle.chan_values.specs.Folded.{folded}
 use Rattle.chan_values.specs.declared.error_code.ErrorCode.TheVariants.{E9, E11}
-use Rattle.chan_values.specs.declared.error_code.ErrorCode.{ErrorCode}
 use Rattle.chan_values.specs.Tree.{Words, Tree, Leaf}
 use Rattle.copy_meaning.specs.Laying.{with_tree, value_of_tree}
 use Rattle.heap_meaning.specs.Values.{StoreValue}
 use Rattle.heap_meaning.specs.Store.{Store}
 use Rattle.node_tree.specs.declared.answers.SetResult.{SetResult}
-use Rattle.node_tree.specs.declared.answers.SetResult.TheVariants.{NoField, NoFit, Same, Changed}
+use Rattle.node_tree.specs.declared.answers.SetResult.TheVariants.{NoField, NoFit, Changed}
 use Rattle.brs_grammar.specs.Form.{Text}
 use Rattle.brs_meaning.specs.Program.{Function}
 use Rattle.brs_meaning.specs.Locals.{Home}
@@ -18,12 +17,12 @@ use Rattle.brs_meaning.specs.Running.{OnTop, AtFailure, Works}
 use Rattle.brs_meaning.specs.Reduction.{home_of}
 use Rattle.brs_meaning.specs.Answering.{State, state, Value, Arguments, Values, Put, Done, Refused, put}
 use Rattle.world_meaning.specs.Channel.{Channel, Component, function_at, function_in, component_at, kind_of_node, node_extends}
-use Rattle.world_meaning.specs.Labels.{Label, Starts, Stops, Drops}
-use Rattle.world_meaning.specs.Core.{names, only, without_posts, Answer, Another, Actor, Core, Moved, moved, followed, actor_at, change_actor, home_of_node, store_of_actor, homes_of_actor}
+use Rattle.world_meaning.specs.Labels.{Starts, Stops, Drops}
+use Rattle.world_meaning.specs.Core.{names, only, without_posts, Answer, Another, Actor, Core, Moved, moved, followed, actor_at, home_of_node, store_of_actor, homes_of_actor}
 use Rattle.world_meaning.specs.Ending.{end_actor}
 use Rattle.world_meaning.specs.Agendas.{yes}
 use Rattle.world_meaning.specs.Effect.{Jobs, Effect, tells, raises}
-use Rattle.world_meaning.specs.Changing.{text_at, words_of, change, set_of, set_by, set}
+use Rattle.world_meaning.specs.Changing.{text_at, words_of, change, set_of, set}
 
 -- ---- who runs for a task node
 

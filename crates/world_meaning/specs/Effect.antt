@@ -1,8 +1,7 @@
 -- What an access does to the world, and what follows it.
-use Rattle.std.specs.Prelude.{ℕ, List, [], ◌∷◌, Option, Some}
+use Rattle.std.specs.Prelude.{ℕ, List, [], ◌∷◌, Option, Bool}
 use Rattle.chan_values.specs.declared.error_code.ErrorCode.{ErrorCode}
 use Rattle.chan_values.specs.Tree.{Tree, Leaf, Boolean}
-use Rattle.std.specs.Prelude.{Bool}
 use Rattle.brs_meaning.specs.Program.{Function}
 use Rattle.brs_meaning.specs.Answering.{Value, Values}
 use Rattle.world_meaning.specs.Core.{Called, Core, Moved, moved, followed, with_agendas}

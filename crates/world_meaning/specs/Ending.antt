@@ -1,5 +1,5 @@
 -- Answers to actors, errors, and the ends of actors and of the run.
-use Rattle.std.specs.Prelude.{ℕ, zero, suc, ◌+◌, Bool, true, false, List, [], ◌∷◌, ◌++◌, Option, Some, None}
+use Rattle.std.specs.Prelude.{ℕ, zero, suc, ◌+◌, Bool, true, false, [], ◌∷◌, ◌++◌, Option, Some, None}
 use Rattle.chan_values.specs.declared.end_reason.EndReason.{EndReason}
 use Rattle.chan_values.specs.declared.end_reason.EndReason.TheVariants as why
 use Rattle.chan_values.specs.declared.error_code.ErrorCode.{ErrorCode}

@@ -14,7 +14,7 @@ use Rattle.brs_meaning.specs.Answering.{Reply}
 use Rattle.world_meaning.specs.Channel.{Channel, handles_keys}
 use Rattle.world_meaning.specs.Labels.{Begins, Ends, Walks}
 use Rattle.world_meaning.specs.Core as k
-use Rattle.world_meaning.specs.Core.{Entry, KeyEntry, AccessEntry, LastEntry, name_of, Closing, Hands, GoesBack, Begun, EntryEnd, Actor, Core, Moved, moved, followed, actor_at}
+use Rattle.world_meaning.specs.Core.{Entry, KeyEntry, AccessEntry, LastEntry, name_of, Closing, Hands, GoesBack, Begun, EntryEnd, Actor, Core, Moved, moved, followed}
 use Rattle.world_meaning.specs.Ending.{hand, end_run}
 use Rattle.world_meaning.specs.Agendas.{invalid, settle}
 use Rattle.world_meaning.specs.Effect.{Jobs, Effect, gives, serve}

@@ -2,7 +2,7 @@
 use Rattle.std.specs.Prelude.{ℕ, zero, suc, ◌+◌, ◌-◌, true, false, List, [], ◌∷◌, ◌++◌, length, map, flat_map, Option, Some, None, option_and_then, codes, if◌then◌else◌}
 use Rattle.chan_values.specs.Folded.{folded}
 use Rattle.chan_values.specs.declared.error_code.ErrorCode.TheVariants.{E11}
-use Rattle.chan_values.specs.Tree.{NodeNumber, Tree, Leaf}
+use Rattle.chan_values.specs.Tree.{NodeNumber, Leaf}
 use Rattle.heap_meaning.specs.declared.plain.Plain.TheVariants.{Node as NodeValue}
 use Rattle.heap_meaning.specs.Values.{Scalar, Reference, Entry}
 use Rattle.heap_meaning.specs.Store.{Object, MapObject}

@@ -1,5 +1,5 @@
 -- The one step that an actor makes, where it can make one.
-use Rattle.std.specs.Prelude.{ℕ, zero, suc, Bool, true, false, List, [], ◌∷◌, Option, Some, None, is_some}
+use Rattle.std.specs.Prelude.{ℕ, zero, suc, Bool, true, false, List, [], ◌∷◌, Option, Some, None}
 use Rattle.chan_values.specs.declared.end_reason.EndReason.{EndReason}
 use Rattle.chan_values.specs.declared.message.Message.{Message}
 use Rattle.message_ports.specs.Messages.{messages_of}
@@ -10,7 +10,7 @@ use Rattle.brs_meaning.specs.Answering.{state, is_idle, want_home, next_wait}
 use Rattle.world_meaning.specs.Channel.{Channel}
 use Rattle.world_meaning.specs.Labels.{Prints}
 use Rattle.world_meaning.specs.Core as k
-use Rattle.world_meaning.specs.Core.{Agenda, Deliveries, Inits, Called, Actor, Core, Moved, moved, actor_at, change_actor, with_agendas, tree_of_actor}
+use Rattle.world_meaning.specs.Core.{Agenda, Deliveries, Inits, Actor, Core, Moved, moved, actor_at, change_actor, with_agendas, tree_of_actor}
 use Rattle.world_meaning.specs.Ending.{with_state, fail, leave}
 use Rattle.world_meaning.specs.Agendas.{Came, TooLarge, finish, deliver, call_init, visit}
 use Rattle.world_meaning.specs.Effect.{serve}
