@@ -35,9 +35,9 @@ use Rattle.world_meaning.specs.Entries.{state_word}
 use Rattle.channel_meaning.specs.World.{first_actor as some_actor}
 use Rattle.channel_meaning.specs.History as l
 use Rattle.channel_meaning.specs.History.{History, recorded, record_all}
-use Rattle.channel_laws.specs.Laws.{Phase}
+use Rattle.channel_laws.specs.Laws.{follows_stop, Phase}
 use Rattle.channel_laws.specs.Rule.{working, ActorIs, IsLast, name_of_begun, Holds, Rule}
-use Rattle.channel_laws.proofs.Lists.{names_without_posts}
+use Rattle.channel_laws.proofs.Lists.{scan_more, names_without_posts}
 use Rattle.channel_laws.proofs.Changes.{change_delivered}
 use Rattle.channel_laws.proofs.Acts.{quiet as said_quiet, over_changes, drop_act}
 use Rattle.channel_laws.proofs.Keeping.{Keeps, followed_keeps, quiet_start, quiet_stop, with_agenda, first_actor, answer_keeps, refuse_keeps, settle_keeps, call_keeps}
@@ -151,7 +151,7 @@ stop_keeps : (b : ℕ) (x : Actor) (c : Core) (h : History) → actor_at c (suc 
 stop_keeps b x c h ex r =
     let A = changed ended c.actors (suc b) in
     let one = said_quiet (l.Stopped (suc b)) c.actors A (names c.inbox) (name_of_begun c.begun) c.agendas h (quiet_stop (suc b)) (λ a p _. over_changes ended c.actors (suc b) (λ y. refl) (λ y. refl) a p) r in
-    let both = drop_act b A (names c.inbox) (name_of_begun c.begun) c.agendas (recorded (Stops (suc b)) h) (idle_after c.actors (suc b) x ex) one in
+    let both = drop_act b A (names c.inbox) (name_of_begun c.begun) c.agendas (recorded (Stops (suc b)) h) (scan_more follows_stop (l.Stopped (suc b)) h.trace None r.entries.drops.0 r.entries.drops.1) (idle_after c.actors (suc b) x ex) one in
     subst (λ ns. Holds A ns (name_of_begun c.begun) c.agendas (record_all (Stops (suc b) ∷ map (Drops (suc b)) (only (suc b) (names c.inbox))) h)) (sym (names_without_posts (suc b) c.inbox)) both
 
 stop_task_keeps : (o : Option ℕ) (n : ℕ) (word : Tree) (c : Core) (h : History) → live_task_of n c ≡ o → Rule c h → Keeps (stop_task o n word c).after h

@@ -12,7 +12,7 @@ use Rattle.brs_grammar.specs.Form.{Text}
 use Rattle.world_meaning.specs.Labels.{Drops}
 use Rattle.world_meaning.specs.Core.{Next, Agenda, Deliveries, Actor, only, is_post_of, number_of, posts_of}
 use Rattle.channel_meaning.specs.History.{Line, Posted, Began, Ended, Dropped, Notified, History, said, arrived, answer_all, delivered, record_all}
-use Rattle.channel_laws.specs.Laws.{scan, Phase, Free, Waiting, Open, Gone, when_free, when_waiting, when_open, talks, takes_turns, begins, dropped, notified, among, without, same_name}
+use Rattle.channel_laws.specs.Laws.{scan, Phase, Free, Waiting, Open, Gone, when_free, when_waiting, when_open, talks, follows_stop, DropsFollowStops, takes_turns, begins, dropped, notified, among, without, same_name}
 use Rattle.channel_laws.specs.Rule.{queued_in, open_in, count_in, fresh, IsFree, working, ActorIs, open_of, Talks, Entries, Holds}
 use Rattle.channel_laws.proofs.Lists.{same_or, self, scan_more, at_changed, get_changed, begins_append, dropped_append, only_append, among_append, without_append, same_self, without_both, without_none, others, only_none, only_others, none_others, one_others}
 use Rattle.channel_laws.proofs.Walks.{begun_walked}
@@ -31,6 +31,7 @@ pub record IsQuiet (x : Line) : Type 0 where
   pub begin : begins (x ∷ []) ≡ []
   pub drop : dropped (x ∷ []) ≡ []
   pub notify : notified (x ∷ []) ≡ []
+  pub follow : (s : Option ℕ) → (r : Option ℕ) × (follows_stop x s ≡ Some r)
 
 pub aside : (a : ℕ) (x : Line) (A A' : List Actor) (I I' : List EntryName) (E E' : Option EntryName) (t : List Line) → Aside a x → only a I' ≡ only a I → open_of a E' ≡ open_of a E → ((p : Phase) → scan (talks a) t (Free 0) ≡ Some p → ActorIs p (slice_get A a) → ActorIs p (slice_get A' a)) → Talks a A I E t → Talks a A' I' E' (t ++ x ∷ [])
 aside a x A A' I I' E E' t q qi qe qa h = record {
@@ -49,11 +50,16 @@ begins_same t x e = begins_append t (x ∷ []) ∙ ap (λ l. begins t ++ l) e �
 pub dropped_same : (t : List Line) (x : Line) → dropped (x ∷ []) ≡ [] → dropped (t ++ x ∷ []) ≡ dropped t
 dropped_same t x e = dropped_append t (x ∷ []) ∙ ap (λ l. dropped t ++ l) e ∙ append-nil (dropped t)
 
+-- what a line leaves that is no drop
+pub more_drops : (x : Line) (t : List Line) → ((s : Option ℕ) → (r : Option ℕ) × (follows_stop x s ≡ Some r)) → DropsFollowStops t → DropsFollowStops (t ++ x ∷ [])
+more_drops x t f d = let g = f d.0 in (g.0, scan_more follows_stop x t None d.0 d.1 ∙ g.1)
+
 pub quiet_entries : (x : Line) (I : List EntryName) (E : Option EntryName) (t : List Line) (R : List EntryName) → IsQuiet x → Entries I E t R → Entries I E (t ++ x ∷ []) R
 quiet_entries x I E t R q h = record {
   order = ap (λ d. without d R) (dropped_same t x q.drop) ∙ h.order ∙ ap (λ l. l ++ I) (sym (begins_same t x q.begin));
   one = scan_more takes_turns x t None E h.one ∙ q.turn E;
   no_key = λ i. ap (among (Key i)) (dropped_same t x q.drop) ∙ h.no_key i;
+  drops = more_drops x t q.follow h.drops;
 }
 
 -- actors change, and a quiet line is said
@@ -134,6 +140,7 @@ post_entries a i I E t R new h = record {
   order = ap (λ d. without d (R ++ Post a i ∷ [])) (dropped_same t (Posted a i) refl) ∙ without_append (dropped t) R (Post a i ∷ []) ∙ ap (λ l. without (dropped t) R ++ l) (ap (λ t. if t then [] else Post a i ∷ []) new) ∙ ap (λ l. l ++ Post a i ∷ []) h.order ∙ append_assoc (begins t) I (Post a i ∷ []) ∙ ap (λ l. l ++ (I ++ Post a i ∷ [])) (sym (begins_same t (Posted a i) refl));
   one = scan_more takes_turns (Posted a i) t None E h.one;
   no_key = λ k. ap (among (Key k)) (dropped_same t (Posted a i) refl) ∙ h.no_key k;
+  drops = more_drops (Posted a i) t (λ s. (None, refl)) h.drops;
 }
 
 free_fresh : (p : Phase) (n : ℕ) → IsFree p → n ≡ count_in p → fresh p ≤ n + 1
@@ -174,6 +181,7 @@ key_act i A I E G h r = record {
     order = without_append (dropped h.trace) h.arrivals (Key i ∷ []) ∙ ap (λ l. without (dropped h.trace) h.arrivals ++ l) (ap (λ t. if t then [] else Key i ∷ []) (r.entries.no_key i)) ∙ ap (λ l. l ++ Key i ∷ []) r.entries.order ∙ append_assoc (begins h.trace) I (Key i ∷ []);
     one = r.entries.one;
     no_key = r.entries.no_key;
+    drops = r.entries.drops;
   };
   deliveries = r.deliveries;
   walks = r.walks;
@@ -234,6 +242,7 @@ begin_act n A I G h r = record {
     order = ap (λ d. without d h.arrivals) (dropped_same h.trace (Began n) refl) ∙ r.entries.order ∙ sym (append_assoc (begins h.trace) (n ∷ []) I) ∙ ap (λ l. l ++ I) (sym (begins_append h.trace (Began n ∷ [])));
     one = scan_more takes_turns (Began n) h.trace None None r.entries.one;
     no_key = λ i. ap (among (Key i)) (dropped_same h.trace (Began n) refl) ∙ r.entries.no_key i;
+    drops = more_drops (Began n) h.trace (λ s. (None, refl)) r.entries.drops;
   };
   deliveries = said_deliveries (Began n) G h.answered h.unanswered h.trace refl r.deliveries;
   walks = begun_walked G (Some n) h.walks r.walks;
@@ -271,6 +280,7 @@ end_act n A A' I h posts keep r = record {
     order = ap (λ d. without d h.arrivals) (dropped_same h.trace (Ended n) refl) ∙ r.entries.order ∙ ap (λ l. l ++ I) (sym (begins_same h.trace (Ended n) refl));
     one = scan_more takes_turns (Ended n) h.trace None (Some n) r.entries.one ∙ ap (λ t. if t then Some None else None) (same_self n);
     no_key = λ i. ap (among (Key i)) (dropped_same h.trace (Ended n) refl) ∙ r.entries.no_key i;
+    drops = more_drops (Ended n) h.trace (λ s. (None, refl)) r.entries.drops;
   };
   deliveries = ended_deliveries n h.answered h.unanswered h.trace r.deliveries;
   walks = r.walks;
@@ -305,13 +315,14 @@ drop_own a i A I E t is idle told open_number nb nd = record {
 }
 
 -- the entries of an actor that doesn't work any more are dropped
-drop_one : (a i : ℕ) (A : List Actor) (I : List EntryName) (E : Option EntryName) (G : List Agenda) (h : History) → working (slice_get A (suc a)) ≡ false → only (suc a) I ≡ i ∷ [] → (k : Talks (suc a) A I E h.trace) → k.phase ≡ Waiting i → Holds A I E G h → Holds A (others (suc a) I) E G (said (Dropped (suc a) i) h)
-drop_one a i A I E G h idle one k pe r = record {
+drop_one : (a i : ℕ) (A : List Actor) (I : List EntryName) (E : Option EntryName) (G : List Agenda) (h : History) → scan follows_stop h.trace None ≡ Some (Some (suc a)) → working (slice_get A (suc a)) ≡ false → only (suc a) I ≡ i ∷ [] → (k : Talks (suc a) A I E h.trace) → k.phase ≡ Waiting i → Holds A I E G h → Holds A (others (suc a) I) E G (said (Dropped (suc a) i) h)
+drop_one a i A I E G h stopped idle one k pe r = record {
   actor = λ b. each b (same_or (suc a) (suc b));
   entries = record {
     order = ap (λ d. without d h.arrivals) (dropped_append h.trace (Dropped (suc a) i ∷ [])) ∙ without_both (dropped h.trace) (Post (suc a) i ∷ []) h.arrivals ∙ ap (without (Post (suc a) i ∷ [])) r.entries.order ∙ without_append (Post (suc a) i ∷ []) (begins h.trace) I ∙ ap (λ l. l ++ without (Post (suc a) i ∷ []) I) (without_none (Post (suc a) i) (begins h.trace) (nb i (omega arith))) ∙ ap (λ l. begins h.trace ++ l) (one_others (suc a) i I one) ∙ ap (λ l. l ++ others (suc a) I) (sym (begins_same h.trace (Dropped (suc a) i) refl));
     one = scan_more takes_turns (Dropped (suc a) i) h.trace None E r.entries.one;
     no_key = λ j. ap (among (Key j)) (dropped_append h.trace (Dropped (suc a) i ∷ [])) ∙ among_append (Key j) (dropped h.trace) (Post (suc a) i ∷ []) (r.entries.no_key j);
+    drops = (None, scan_more follows_stop (Dropped (suc a) i) h.trace None (Some (suc a)) stopped ∙ ap (λ t. if t then Some None else None) (self (suc a)));
   };
   deliveries = said_deliveries (Dropped (suc a) i) G h.answered h.unanswered h.trace refl r.deliveries;
   walks = r.walks;
@@ -330,8 +341,8 @@ drop_one a i A I E G h idle one k pe r = record {
     each b (inl e) = subst (λ c. Talks c A (others (suc a) I) E (h.trace ++ Dropped (suc a) i ∷ [])) e own
     each b (inr e) = aside (suc b) (Dropped (suc a) i) A A I (others (suc a) I) E E h.trace (drop_aside (suc a) (suc b) i e) (only_others (suc a) (suc b) e I) refl (λ p _ k. k) (r.actor b)
 
-pub drop_act : (a : ℕ) (A : List Actor) (I : List EntryName) (E : Option EntryName) (G : List Agenda) (h : History) → working (slice_get A (suc a)) ≡ false → Holds A I E G h → Holds A (others (suc a) I) E G (record_all (map (Drops (suc a)) (only (suc a) I)) h)
-drop_act a A I E G h idle r = go k.phase refl
+pub drop_act : (a : ℕ) (A : List Actor) (I : List EntryName) (E : Option EntryName) (G : List Agenda) (h : History) → scan follows_stop h.trace None ≡ Some (Some (suc a)) → working (slice_get A (suc a)) ≡ false → Holds A I E G h → Holds A (others (suc a) I) E G (record_all (map (Drops (suc a)) (only (suc a) I)) h)
+drop_act a A I E G h stopped idle r = go k.phase refl
   where
     k : Talks (suc a) A I E h.trace
     k = r.actor a
@@ -342,7 +353,7 @@ drop_act a A I E G h idle r = go k.phase refl
     go : (p : Phase) → k.phase ≡ p → Holds A (others (suc a) I) E G (record_all (map (Drops (suc a)) (only (suc a) I)) h)
     go (Waiting i) e =
         let one = k.queue ∙ ap queued_in e in
-        subst (λ l. Holds A (others (suc a) I) E G (record_all (map (Drops (suc a)) l) h)) (sym one) (drop_one a i A I E G h idle one k e r)
+        subst (λ l. Holds A (others (suc a) I) E G (record_all (map (Drops (suc a)) l) h)) (sym one) (drop_one a i A I E G h stopped idle one k e r)
     go (Free i) e = none (k.queue ∙ ap queued_in e)
     go (Open i) e = none (k.queue ∙ ap queued_in e)
     go (Gone i) e = none (k.queue ∙ ap queued_in e)
@@ -358,6 +369,7 @@ deliver_act message x left next later A I E h k = record {
     order = ap (λ d. without d h.arrivals) (dropped_same h.trace (Notified message.node message.field x) refl) ∙ k.entries.order ∙ ap (λ l. l ++ I) (sym (begins_same h.trace (Notified message.node message.field x) refl));
     one = scan_more takes_turns (Notified message.node message.field x) h.trace None E k.entries.one;
     no_key = λ i. ap (among (Key i)) (dropped_same h.trace (Notified message.node message.field x) refl) ∙ k.entries.no_key i;
+    drops = more_drops (Notified message.node message.field x) h.trace (λ s. (None, refl)) k.entries.drops;
   };
   deliveries = deliver_one x left false true message next later h.answered h.unanswered h.trace k.deliveries;
   walks = k.walks;

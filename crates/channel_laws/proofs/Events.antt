@@ -112,7 +112,7 @@ no_posts ch (suc b) = refl
 pub opens : EveryOpening
 opens ch = record {
   actor = λ b. record { phase = Free 0; told = refl; queue = refl; open_number = refl; is = record { posts = no_posts ch b; works = λ w. tt }; new_begin = λ i le. refl; new_drop = λ i le. refl };
-  entries = record { order = refl; one = refl; no_key = λ i. refl };
+  entries = record { order = refl; one = refl; no_key = λ i. refl; drops = (None, refl) };
   deliveries = record { zipped = tt; waiting = tt; all = tt; count = λ p. refl };
   walks = tt;
 }
@@ -141,6 +141,7 @@ all_delivered (c ∷ past) cs h i = (([], append-nil c.begun ∙ h.0, λ e. h.0)
 laws_hold : (c : Core) (h : History) → Rule c h → Laws h
 laws_hold c h r = record {
   posts = λ b. let i = r.actor b in (i.phase, i.told);
+  drops = r.entries.drops;
   entries = (names c.inbox, r.entries.order);
   one = record { open_entry = name_of_begun c.begun; turns = r.entries.one; walked = all_walked c.agendas (name_of_begun c.begun) h.walks r.walks };
   deliveries = all_delivered h.answered h.unanswered r.deliveries.all (waiting_delivered c.agendas h.unanswered r.deliveries.zipped r.deliveries.waiting);

@@ -53,22 +53,22 @@ followed_at m f h i = subst (Rule (f m.core).core) (sym (record_both m.labels (f
 -- ---- lines and fields that no law speaks of
 
 pub quiet_print : (a : ℕ) (t : List ℕ) → IsQuiet (l.Printed a t)
-quiet_print a t = record { aside = λ b. record { talk = λ p. refl; begin = λ i. refl; drop = λ i. refl }; turn = λ s. refl; begin = refl; drop = refl; notify = refl }
+quiet_print a t = record { aside = λ b. record { talk = λ p. refl; begin = λ i. refl; drop = λ i. refl }; turn = λ s. refl; begin = refl; drop = refl; notify = refl; follow = λ s. (None, refl) }
 
 pub quiet_fail : (a : ℕ) (e : ErrorCode) (at : Place) → IsQuiet (l.Failed a e at)
-quiet_fail a e at = record { aside = λ b. record { talk = λ p. refl; begin = λ i. refl; drop = λ i. refl }; turn = λ s. refl; begin = refl; drop = refl; notify = refl }
+quiet_fail a e at = record { aside = λ b. record { talk = λ p. refl; begin = λ i. refl; drop = λ i. refl }; turn = λ s. refl; begin = refl; drop = refl; notify = refl; follow = λ s. (None, refl) }
 
 pub quiet_return : (a : ℕ) → IsQuiet (l.Returned a)
-quiet_return a = record { aside = λ b. record { talk = λ p. refl; begin = λ i. refl; drop = λ i. refl }; turn = λ s. refl; begin = refl; drop = refl; notify = refl }
+quiet_return a = record { aside = λ b. record { talk = λ p. refl; begin = λ i. refl; drop = λ i. refl }; turn = λ s. refl; begin = refl; drop = refl; notify = refl; follow = λ s. (None, refl) }
 
 pub quiet_start : (a n : ℕ) → IsQuiet (l.Started a n)
-quiet_start a n = record { aside = λ b. record { talk = λ p. refl; begin = λ i. refl; drop = λ i. refl }; turn = λ s. refl; begin = refl; drop = refl; notify = refl }
+quiet_start a n = record { aside = λ b. record { talk = λ p. refl; begin = λ i. refl; drop = λ i. refl }; turn = λ s. refl; begin = refl; drop = refl; notify = refl; follow = λ s. (None, refl) }
 
 pub quiet_stop : (a : ℕ) → IsQuiet (l.Stopped a)
-quiet_stop a = record { aside = λ b. record { talk = λ p. refl; begin = λ i. refl; drop = λ i. refl }; turn = λ s. refl; begin = refl; drop = refl; notify = refl }
+quiet_stop a = record { aside = λ b. record { talk = λ p. refl; begin = λ i. refl; drop = λ i. refl }; turn = λ s. refl; begin = refl; drop = refl; notify = refl; follow = λ s. (Some a, refl) }
 
 quiet_visit : (key : Key) (press : Bool) (n : ℕ) (taken : Bool) → IsQuiet (l.Visited key press n taken)
-quiet_visit key press n taken = record { aside = λ b. record { talk = λ p. refl; begin = λ i. refl; drop = λ i. refl }; turn = λ s. refl; begin = refl; drop = refl; notify = refl }
+quiet_visit key press n taken = record { aside = λ b. record { talk = λ p. refl; begin = λ i. refl; drop = λ i. refl }; turn = λ s. refl; begin = refl; drop = refl; notify = refl; follow = λ s. (None, refl) }
 
 pub quiet_here : (x : Line) (G : List Agenda) (c : Core) (h : History) → IsQuiet x → With G c h → With G c (said x h)
 quiet_here x G c h q r = quiet x c.actors c.actors (names c.inbox) (name_of_begun c.begun) G h q (λ b p _ i. i) r

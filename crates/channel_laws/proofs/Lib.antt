@@ -7,8 +7,3 @@ mod Keeping
 mod Accesses
 mod Steps
 mod Events
-mod CountingPlaces
-mod CountingAccesses
-mod CountingSteps
-mod CountingEvents
-mod Isolated

@@ -5,7 +5,7 @@ use Rattle.trace_report.specs.declared.entry.EntryName.{EntryName}
 use Rattle.trace_report.specs.declared.entry.EntryName.TheVariants.{Post, Key}
 use Rattle.brs_grammar.specs.Form.{Text}
 use Rattle.world_meaning.specs.Core.{is_post_of, number_of}
-use Rattle.channel_meaning.specs.History.{Line, Posted, Began, Ended, Dropped, Notified, Change, Visit, Walk, History}
+use Rattle.channel_meaning.specs.History.{Line, Posted, Began, Ended, Stopped, Dropped, Notified, Change, Visit, Walk, History}
 
 -- ---- automata over lines
 
@@ -52,6 +52,16 @@ talks a _ p = Some p
 -- one is neither ended nor dropped
 abbrev pub PostsInTurn : ℕ → List Line → Type 0
 PostsInTurn a trace = (p : Phase) × (scan (talks a) trace (Free 0) ≡ Some p)
+
+-- a drop stands directly behind the stop of its actor
+abbrev pub follows_stop : Line → Option ℕ → Option (Option ℕ)
+follows_stop (Stopped a) s = Some (Some a)
+follows_stop (Dropped a i) (Some b) = if nat_eq b a then Some None else None
+follows_stop (Dropped a i) None = None
+follows_stop _ s = Some None
+
+abbrev pub DropsFollowStops : List Line → Type 0
+DropsFollowStops trace = (s : Option ℕ) × (scan follows_stop trace None ≡ Some s)
 
 -- ---- entries
 
@@ -167,6 +177,7 @@ pub record OneAtATime (trace : List Line) (walks : List Walk) : Type 0 where
 
 pub record Laws (h : History) : Type 0 where
   pub posts : (b : ℕ) → PostsInTurn (suc b) h.trace
+  pub drops : DropsFollowStops h.trace
   pub entries : EntriesInOrder h.trace h.arrivals
   pub one : OneAtATime h.trace h.walks
   pub deliveries : AllDelivered (h.answered ++ h.unanswered)

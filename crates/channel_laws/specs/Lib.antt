@@ -1,4 +1,2 @@
 pub mod Laws
 pub mod Rule
-pub mod Counts
-pub mod Isolation

@@ -11,7 +11,7 @@ use Rattle.world_meaning.specs.Core.{names, only, Begun, Next, Answer, Another, 
 use Rattle.world_meaning.specs.Steps.{step}
 use Rattle.channel_meaning.specs.History.{Line, Change, Visit, Walk, History, record_all}
 use Rattle.channel_meaning.specs.World.{World, happens, run, opening}
-use Rattle.channel_laws.specs.Laws.{scan, Phase, Free, Waiting, Open, Gone, talks, takes_turns, begins, dropped, among, without, Delivery, notified, begun_by, AllRefused, visited_nodes, IsWalk, IsOver, Laws}
+use Rattle.channel_laws.specs.Laws.{scan, Phase, Free, Waiting, Open, Gone, talks, DropsFollowStops, takes_turns, begins, dropped, among, without, Delivery, notified, begun_by, AllRefused, visited_nodes, IsWalk, IsOver, Laws}
 
 -- ---- the posts of one actor
 
@@ -74,6 +74,7 @@ pub record Entries (inbox : List EntryName) (begun : Option EntryName) (trace : 
   pub order : without (dropped trace) arrivals ≡ begins trace ++ inbox
   pub one : scan takes_turns trace None ≡ Some begun
   pub no_key : (i : ℕ) → among (Key i) (dropped trace) ≡ false
+  pub drops : DropsFollowStops trace
 
 -- ---- deliveries
 

@@ -1,6 +1,4 @@
 //! The laws of every run, and the rule from which they follow.
-ghost use Rattle.channel_laws.specs.Counts.{EventCounts, OpeningCounts, StepCounts};
-ghost use Rattle.channel_laws.specs.Isolation.{EveryOtherStep};
 ghost use Rattle.channel_laws.specs.Rule.{EveryRun, EveryOpening, EveryStepKeeps, EveryEventKeeps};
 
 /// Of every run: each actor's posts are numbered from 1 and begin in their order, each at most once and after its post, or are dropped
@@ -24,18 +22,4 @@ pub fn every_step_keeps()
 /// Each event keeps the rule.
 pub fn every_event_keeps()
     ensures { EveryEventKeeps }
-{}
-
-/// In no world of a run there are more nodes, ports or actors than there may be, no actor has made more posts than steps were made, and no
-/// more keys have come than events. So none of these numbers overflows.
-pub fn every_count()
-    ensures opening { OpeningCounts }
-    ensures step { StepCounts }
-    ensures event { EventCounts }
-{}
-
-/// A step of another actor than 0 leaves actor 0 in place, with all that it has to do, and the registrations and the focus; and where it
-/// posts, it changes no node at all.
-pub fn every_other_step()
-    ensures { EveryOtherStep }
 {}

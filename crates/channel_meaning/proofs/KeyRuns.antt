@@ -46,14 +46,14 @@ focused =
     (s.plan (codes "Mid") (Some 1) [] [] 1 ∷ s.plan (codes "Leaf") (Some 1) [] [] 1 ∷ [])
     (s.component 1 (Some 1) [] [] ∷ s.component 2 (Some 3) [] [] ∷ [])
 
-pub pressing : (run_of focused (Round 100 ∷ Round 100 ∷ Key key.Up true ∷ Turn 0 100 ∷ Key key.Back true ∷ Turn 0 100 ∷ [])).history.trace
+pressing : (run_of focused (Round 100 ∷ Round 100 ∷ Key key.Up true ∷ Turn 0 100 ∷ Key key.Back true ∷ Turn 0 100 ∷ [])).history.trace
     ≡ Posted 1 1 ∷ Began (entry.Post 1 1) ∷ Ended (entry.Post 1 1)
     ∷ Began (entry.Key 1) ∷ Visited key.Up true 3 false ∷ Visited key.Up true 2 true ∷ Ended (entry.Key 1)
     ∷ Began (entry.Key 2) ∷ Visited key.Back true 3 false ∷ Visited key.Back true 2 false ∷ Ended (entry.Key 2) ∷ []
 unfolding chars is_utf8 encode digits int_wrap unfolded is_alike
 pressing = refl
 
-pub an_untaken_back : (run_of focused (Round 100 ∷ Round 100 ∷ Key key.Up true ∷ Turn 0 100 ∷ Key key.Back true ∷ Turn 0 100 ∷ [])).core.ending ≡ Some why.Back
+an_untaken_back : (run_of focused (Round 100 ∷ Round 100 ∷ Key key.Up true ∷ Turn 0 100 ∷ Key key.Back true ∷ Turn 0 100 ∷ [])).core.ending ≡ Some why.Back
 unfolding chars is_utf8 encode digits int_wrap unfolded is_alike
 an_untaken_back = refl
 
@@ -89,7 +89,7 @@ listening =
     (s.component 1 (Some 1) [] [] ∷ [])
 
 -- a wait with the time 0 doesn't expire
-pub a_message_and_a_wait :
+a_message_and_a_wait :
     (run_of listening (Round 100 ∷ Round 100 ∷ Round 100 ∷ Round 100 ∷ Expire 1 ∷ Expire 2 ∷ Round 100 ∷ Turn 0 100 ∷ [])).history.trace
     ≡ Posted 1 1 ∷ Began (entry.Post 1 1) ∷ Ended (entry.Post 1 1)
     ∷ Posted 1 2 ∷ Began (entry.Post 1 2) ∷ Started 2 2 ∷ Ended (entry.Post 1 2)
@@ -107,10 +107,10 @@ waiting_init =
     (s.plan (codes "Slow") (Some 0) [] [] 1 ∷ [])
     (s.component 1 (Some 1) [] [] ∷ [])
 
-pub an_init_that_waits : (run_of waiting_init (Round 100 ∷ Round 100 ∷ [])).history.trace ≡ Posted 1 1 ∷ Began (entry.Post 1 1) ∷ Failed 0 E10 (record { path = 0; line = 2 }) ∷ []
+an_init_that_waits : (run_of waiting_init (Round 100 ∷ Round 100 ∷ [])).history.trace ≡ Posted 1 1 ∷ Began (entry.Post 1 1) ∷ Failed 0 E10 (record { path = 0; line = 2 }) ∷ []
 unfolding chars is_utf8 encode digits int_wrap unfolded is_alike
 an_init_that_waits = refl
 
-pub an_error_of_actor_0 : (run_of waiting_init (Round 100 ∷ Round 100 ∷ [])).core.ending ≡ Some why.Error
+an_error_of_actor_0 : (run_of waiting_init (Round 100 ∷ Round 100 ∷ [])).core.ending ≡ Some why.Error
 unfolding chars is_utf8 encode digits int_wrap unfolded is_alike
 an_error_of_actor_0 = refl

@@ -53,7 +53,7 @@ abbrev setting_twice : Text → Text → Text → Todo
 setting_twice kind one other =
     s.set (codes "o") (s.create kind) (s.put (s.name (codes "o")) (codes "n") (s.number one) (s.put (s.name (codes "o")) (codes "n") (s.number other) finish))
 
-pub observers_at_the_change :
+observers_at_the_change :
     trace_of (obs (setting_twice (codes "\"Obs\"") (codes "1") (codes "2"))) 1000 (Round 100 ∷ Round 100 ∷ Round 100 ∷ Round 100 ∷ [])
     ≡ Posted 1 1 ∷ Began (entry.Post 1 1) ∷ Ended (entry.Post 1 1)
     ∷ Posted 1 2 ∷ Began (entry.Post 1 2) ∷ Notified 2 (codes "n") (of_function (codes "one")) ∷ Notified 2 (codes "n") (of_function (codes "two")) ∷ Ended (entry.Post 1 2)
@@ -72,7 +72,7 @@ hearing always main =
     (s.component 1 None (record { key = codes "n"; value = codes "hit" } ∷ []) [] ∷ [])
 
 -- the same value again is no change
-pub a_value_again :
+a_value_again :
     trace_of (hearing false (setting_twice (codes "\"Two\"") (codes "1") (codes "1"))) 1000 (Round 100 ∷ Round 100 ∷ Round 100 ∷ Round 100 ∷ [])
     ≡ Posted 1 1 ∷ Began (entry.Post 1 1) ∷ Ended (entry.Post 1 1)
     ∷ Posted 1 2 ∷ Began (entry.Post 1 2) ∷ Notified 2 (codes "n") (of_field (codes "hit")) ∷ Ended (entry.Post 1 2)
@@ -82,7 +82,7 @@ unfolding chars is_utf8 encode digits int_wrap unfolded is_alike
 a_value_again = refl
 
 -- but where the field has alwaysNotify
-pub always_notified :
+always_notified :
     trace_of (hearing true (setting_twice (codes "\"Two\"") (codes "1") (codes "1"))) 1000 (Round 100 ∷ Round 100 ∷ Round 100 ∷ Round 100 ∷ [])
     ≡ Posted 1 1 ∷ Began (entry.Post 1 1) ∷ Ended (entry.Post 1 1)
     ∷ Posted 1 2 ∷ Began (entry.Post 1 2) ∷ Notified 2 (codes "n") (of_field (codes "hit")) ∷ Ended (entry.Post 1 2)
@@ -94,18 +94,18 @@ always_notified = refl
 -- ---- the bound
 
 -- 4 steps of Main post the making; its begin would be the fifth
-pub a_bound_at_a_begin : trace_of (hearing false (setting_twice (codes "\"Two\"") (codes "1") (codes "1"))) 4 (Round 100 ∷ Round 100 ∷ []) ≡ Posted 1 1 ∷ []
+a_bound_at_a_begin : trace_of (hearing false (setting_twice (codes "\"Two\"") (codes "1") (codes "1"))) 4 (Round 100 ∷ Round 100 ∷ []) ≡ Posted 1 1 ∷ []
 unfolding chars is_utf8 encode digits int_wrap unfolded is_alike
 a_bound_at_a_begin = refl
 
 -- begin, end, 4 steps of Main that post the set, and its begin make 11; the delivery would be the twelfth
-pub a_bound_at_a_delivery :
+a_bound_at_a_delivery :
     trace_of (hearing false (setting_twice (codes "\"Two\"") (codes "1") (codes "1"))) 11 (Round 100 ∷ Round 100 ∷ Round 100 ∷ [])
     ≡ Posted 1 1 ∷ Began (entry.Post 1 1) ∷ Ended (entry.Post 1 1) ∷ Posted 1 2 ∷ Began (entry.Post 1 2) ∷ []
 unfolding chars is_utf8 encode digits int_wrap unfolded is_alike
 a_bound_at_a_delivery = refl
 
-pub a_bound_ends_the_run : (run (hearing false (setting_twice (codes "\"Two\"") (codes "1") (codes "1"))) 11 (Round 100 ∷ Round 100 ∷ Round 100 ∷ [])).core.ending ≡ Some why.Steps
+a_bound_ends_the_run : (run (hearing false (setting_twice (codes "\"Two\"") (codes "1") (codes "1"))) 11 (Round 100 ∷ Round 100 ∷ Round 100 ∷ [])).core.ending ≡ Some why.Steps
 unfolding chars is_utf8 encode digits int_wrap unfolded is_alike
 a_bound_ends_the_run = refl
 
@@ -121,7 +121,7 @@ nested main =
     (s.plan (codes "Nested") (Some 0) (s.number_field (codes "a") false ∷ s.number_field (codes "b") false ∷ []) [] 1 ∷ [])
     (s.component 1 None (record { key = codes "a"; value = codes "first" } ∷ record { key = codes "b"; value = codes "second" } ∷ []) [] ∷ [])
 
-pub a_delivery_inside_another :
+a_delivery_inside_another :
     trace_of (nested (s.set (codes "o") (s.create (codes "\"Nested\"")) (s.put (s.name (codes "o")) (codes "a") (s.number (codes "1")) finish))) 1000 (Round 100 ∷ Round 100 ∷ Turn 0 100 ∷ [])
     ≡ Posted 1 1 ∷ Began (entry.Post 1 1) ∷ Ended (entry.Post 1 1)
     ∷ Posted 1 2 ∷ Began (entry.Post 1 2) ∷ Notified 2 (codes "a") (of_field (codes "first")) ∷ Notified 2 (codes "b") (of_field (codes "second"))
@@ -147,7 +147,7 @@ copying =
     (s.put (s.name (codes "a")) (codes "self") (s.name (codes "a"))
     (s.put g (codes "d") (s.name (codes "a")) finish)))))))
 
-pub a_copied_array :
+a_copied_array :
     trace_of (s.channel copying [] [] [] []) 1000 (Round 100 ∷ Round 100 ∷ Round 100 ∷ Round 100 ∷ [])
     ≡ Posted 1 1 ∷ Began (entry.Post 1 1) ∷ Ended (entry.Post 1 1)
     ∷ Posted 1 2 ∷ Began (entry.Post 1 2) ∷ Ended (entry.Post 1 2)

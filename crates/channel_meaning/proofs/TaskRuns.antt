@@ -45,12 +45,12 @@ abbrev trace_of : Channel → List Event → List Line
 trace_of ch events = (run ch 1000 events).history.trace
 
 -- the making of a node by Main is a post; its `init` runs before the answer
-pub a_making : trace_of (worker (starting waiting)) (Turn 1 100 ∷ Turn 0 100 ∷ []) ≡ Posted 1 1 ∷ Began (entry.Post 1 1) ∷ Ended (entry.Post 1 1) ∷ []
+a_making : trace_of (worker (starting waiting)) (Turn 1 100 ∷ Turn 0 100 ∷ []) ≡ Posted 1 1 ∷ Began (entry.Post 1 1) ∷ Ended (entry.Post 1 1) ∷ []
 unfolding chars is_utf8 encode digits int_wrap unfolded is_alike
 a_making = refl
 
 -- a task's life: its start, its post while a key waits behind it, its return, and its last entry
-pub a_life :
+a_life :
     trace_of (worker (starting waiting))
     (Turn 1 100 ∷ Turn 0 100 ∷ Turn 1 100 ∷ Turn 0 100 ∷ Key key.Ok true ∷ Turn 2 100 ∷ Turn 2 100 ∷ Turn 0 100 ∷ Turn 2 100 ∷ Turn 0 100 ∷ [])
     ≡ Posted 1 1 ∷ Began (entry.Post 1 1) ∷ Ended (entry.Post 1 1)
@@ -61,7 +61,7 @@ unfolding chars is_utf8 encode digits int_wrap unfolded is_alike
 a_life = refl
 
 -- a stop before the task's access has begun drops it: the node keeps its value
-pub a_drop :
+a_drop :
     trace_of (worker (starting (s.put (s.name (codes "w")) (codes "control") (s.text (codes "\"STOP\"")) waiting)))
     (Round 100 ∷ Round 100 ∷ Turn 0 100 ∷ Turn 1 100 ∷ Turn 2 100 ∷ Turn 0 100 ∷ [])
     ≡ Posted 1 1 ∷ Began (entry.Post 1 1) ∷ Ended (entry.Post 1 1)
@@ -78,7 +78,7 @@ halting =
     (s.plan (codes "Worker") (Some 2) (s.number_field (codes "n") false ∷ []) [] 1 ∷ [])
     (s.component 1 (Some 1) (record { key = codes "n"; value = codes "halt" } ∷ []) [] ∷ [])
 
-pub a_stop_of_a_begun_access :
+a_stop_of_a_begun_access :
     trace_of halting (Turn 1 100 ∷ Turn 0 100 ∷ Turn 1 100 ∷ Turn 0 100 ∷ Turn 2 100 ∷ Turn 0 100 ∷ Turn 2 100 ∷ [])
     ≡ Posted 1 1 ∷ Began (entry.Post 1 1) ∷ Ended (entry.Post 1 1)
     ∷ Posted 1 2 ∷ Began (entry.Post 1 2) ∷ Started 2 2 ∷ Ended (entry.Post 1 2)
@@ -98,7 +98,7 @@ quick =
 abbrev restarting : List Event
 restarting = Turn 1 100 ∷ Turn 0 100 ∷ Turn 1 100 ∷ Turn 0 100 ∷ Turn 1 100 ∷ Turn 2 100 ∷ Turn 0 100 ∷ []
 
-pub a_restart :
+a_restart :
     trace_of quick restarting
     ≡ Posted 1 1 ∷ Began (entry.Post 1 1) ∷ Ended (entry.Post 1 1)
     ∷ Posted 1 2 ∷ Began (entry.Post 1 2) ∷ Started 2 2 ∷ Ended (entry.Post 1 2)
@@ -107,7 +107,7 @@ pub a_restart :
 unfolding chars is_utf8 encode digits int_wrap unfolded is_alike
 a_restart = refl
 
-pub still_running : text_at (run quick 1000 restarting).core.nodes 2 (codes "state") ≡ codes "run"
+still_running : text_at (run quick 1000 restarting).core.nodes 2 (codes "state") ≡ codes "run"
 unfolding chars is_utf8 encode digits int_wrap unfolded is_alike
 still_running = refl
 
@@ -119,12 +119,12 @@ lost =
     (s.plan (codes "Worker") (Some 2) [] [] 1 ∷ [])
     (s.component 1 (Some 1) [] [] ∷ [])
 
-pub a_function_that_is_not_there :
+a_function_that_is_not_there :
     trace_of lost (Turn 1 100 ∷ Turn 0 100 ∷ Turn 1 100 ∷ Turn 0 100 ∷ [])
     ≡ Posted 1 1 ∷ Began (entry.Post 1 1) ∷ Ended (entry.Post 1 1) ∷ Posted 1 2 ∷ Began (entry.Post 1 2) ∷ Ended (entry.Post 1 2) ∷ []
 unfolding chars is_utf8 encode digits int_wrap unfolded is_alike
 a_function_that_is_not_there = refl
 
-pub stopped_at_once : text_at (run lost 1000 (Turn 1 100 ∷ Turn 0 100 ∷ Turn 1 100 ∷ Turn 0 100 ∷ [])).core.nodes 2 (codes "state") ≡ codes "stop"
+stopped_at_once : text_at (run lost 1000 (Turn 1 100 ∷ Turn 0 100 ∷ Turn 1 100 ∷ Turn 0 100 ∷ [])).core.nodes 2 (codes "state") ≡ codes "stop"
 unfolding chars is_utf8 encode digits int_wrap unfolded is_alike
 stopped_at_once = refl

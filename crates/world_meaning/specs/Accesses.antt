@@ -48,6 +48,7 @@ quiet (Count n) c = gives (Leaf (Integer (pos (length (children_of c.nodes n))))
 quiet (Parent n) c = gives (node_value (parent_of c.nodes n)) c
 quiet (Find n id) c = gives (node_value (found c.nodes n id)) c
 quiet (Subtype n) c = gives (Leaf (Words (unwrap_or (kind_of c.nodes n) []))) c
+-- the rows of the other accesses stand below
 quiet _ c = gives invalid c
 
 -- ---- observers

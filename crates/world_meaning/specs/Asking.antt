@@ -89,7 +89,7 @@ own_effect ch a (Create n kind) c = make_own ch a (kind_named ch kind) (Some n) 
 own_effect ch a (Set n f v) c = set_own_by (set_of c n f v) n f v c
 own_effect ch a access c = quiet access c
 
--- the answer comes in the same step, and so does an error
+-- The answer comes in the same step, and so does an error. No access at an own node has jobs or calls.
 abbrev pub answer_own : ℕ → Result → Core → Moved
 answer_own a (Gives v) c = moved (hand a (Value v) c) []
 answer_own a (Raises e) c = fail_asking a e c
@@ -115,6 +115,7 @@ abbrev pub ask_port : ℕ → Request → Core → Moved
 ask_port a MakePort c = make_port (nat_lt (length c.ports) most_ports) a c
 ask_port a (Wait port limited) c = take_message (messages_of c.ports port) port a c
 ask_port a (Poll port) c = take_message (messages_of c.ports port) port a c
+-- an access asks for no port
 ask_port a (Asks access) c = moved c []
 
 -- another actor than 0

@@ -62,7 +62,7 @@ fail_where a e None c = moved c []
 abbrev pub fail_asking : ℕ → ErrorCode → Core → Moved
 fail_asking a e c = fail_where a e (want_place (tree_of_actor (actor_at c a))) c
 
--- the first function of an actor returned: that of actor 1 ends the run, that of a task the task
+-- The first function of an actor returned: that of actor 1 ends the run, that of a task the task. What calls of actor 0 return is no end.
 abbrev pub leave : ℕ → Core → Moved
 leave (suc zero) c = moved (end_run why.Main (end_actor 1 c)) (Returns 1 ∷ [])
 leave a c = followed (moved (end_actor a c) (Returns a ∷ [])) (post_last a true)

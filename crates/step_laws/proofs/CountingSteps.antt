@@ -31,13 +31,13 @@ use Rattle.world_meaning.specs.Steps.{put_back, first_asks, first_shows, if_idle
 use Rattle.std.proofs.lemmas.Bool.{ltb-true}
 use Rattle.std.proofs.lemmas.List.{length-append}
 use Rattle.node_tree.proofs.Places.{length_changed}
-use Rattle.channel_laws.specs.Counts.{Within, IsWithin, IfWithin, StepCounts}
-use Rattle.channel_laws.proofs.Lists.{at_changed}
-use Rattle.channel_laws.proofs.Keeping.{posts_handed}
+use Rattle.step_laws.specs.Counts.{Within, IsWithin, IfWithin, StepCounts}
+use Rattle.step_laws.proofs.Actors.{at_changed}
+use Rattle.step_laws.proofs.Actors.{posts_handed}
 use Rattle.chan_values.specs.declared.error_code.ErrorCode.{ErrorCode}
 use Rattle.chan_values.specs.declared.place.Place.{Place}
-use Rattle.channel_laws.proofs.CountingPlaces.{few_made, few_below, with_nodes, with_ports, set_within, actor_within, fail_within, settle_within, finish_within, call_within, deliver_within, visit_within}
-use Rattle.channel_laws.proofs.CountingAccesses.{serve_within, quiet_within, effect_within, given_within}
+use Rattle.step_laws.proofs.CountingPlaces.{few_made, few_below, with_nodes, with_ports, set_within, actor_within, fail_within, settle_within, finish_within, call_within, deliver_within, visit_within}
+use Rattle.step_laws.proofs.CountingAccesses.{serve_within, quiet_within, effect_within, given_within}
 use Rattle.trace_report.specs.declared.entry.EntryName.TheVariants as entry
 use Rattle.brs_meaning.specs.Running as t
 use Rattle.world_meaning.specs.Core as k

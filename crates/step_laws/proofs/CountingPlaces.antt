@@ -31,9 +31,9 @@ use Rattle.node_tree.specs.Subtree.{Subtree, subtree, Subtrees, none, more, size
 use Rattle.node_tree.specs.declared.children.Place.TheVariants.{Last}
 use Rattle.node_tree.proofs.Places.{length_changed, length_with}
 use Rattle.node_tree.proofs.Stays.{length_moved}
-use Rattle.channel_laws.specs.Counts.{Within, IsWithin}
-use Rattle.channel_laws.proofs.Lists.{at_changed}
-use Rattle.channel_laws.proofs.Keeping.{posts_handed}
+use Rattle.step_laws.specs.Counts.{Within, IsWithin}
+use Rattle.step_laws.proofs.Actors.{at_changed}
+use Rattle.step_laws.proofs.Actors.{posts_handed}
 use Rattle.chan_values.specs.declared.error_code.ErrorCode.{ErrorCode}
 use Rattle.chan_values.specs.declared.place.Place.{Place}
 use Rattle.world_meaning.specs.Core as k

@@ -29,7 +29,7 @@ use Rattle.world_meaning.specs.Accesses.{add_field}
 use Rattle.world_meaning.specs.Changing.{set_of}
 use Rattle.world_meaning.specs.Effect.{Effect}
 use Rattle.world_meaning.specs.Steps.{put_back, other_shows, waits, unless, step_other, step_live, step_actor, step_running}
-use Rattle.channel_laws.specs.Isolation.{LeavesInPlace, IfLeaves, EveryOtherStep}
+use Rattle.step_laws.specs.Isolation.{LeavesInPlace, IfLeaves, EveryOtherStep}
 
 first_same : (f : Actor → Actor) (A : List Actor) (b : ℕ) → slice_get (changed f A (suc b)) 0 ≡ slice_get A 0
 first_same f [] b = refl

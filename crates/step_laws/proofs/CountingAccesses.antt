@@ -33,8 +33,8 @@ use Rattle.std.proofs.lemmas.Bool.{ltb-true}
 use Rattle.std.proofs.lemmas.List.{length-append}
 use Rattle.node_tree.specs.declared.children.Place.TheVariants.{Last}
 use Rattle.node_tree.proofs.Stays.{length_add, length_moved, length_inserted, length_removed}
-use Rattle.channel_laws.specs.Counts.{Within, IsWithin}
-use Rattle.channel_laws.proofs.CountingPlaces.{length_where, few_made, few_below, with_nodes, same_length, set_within, actor_within, answer_within, refuse_within, settle_within, call_within}
+use Rattle.step_laws.specs.Counts.{Within, IsWithin}
+use Rattle.step_laws.proofs.CountingPlaces.{length_where, few_made, few_below, with_nodes, same_length, set_within, actor_within, answer_within, refuse_within, settle_within, call_within}
 use Rattle.world_meaning.specs.Core as k
 use Rattle.field_observers.specs.declared.target.Target.TheVariants as target
 

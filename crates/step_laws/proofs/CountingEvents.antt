@@ -13,10 +13,10 @@ use Rattle.world_meaning.specs.Ending.{with_state, hand}
 use Rattle.world_meaning.specs.Agendas.{invalid}
 use Rattle.world_meaning.specs.Steps.{step, is_empty}
 use Rattle.channel_meaning.specs.World.{World, stepped, turned, turned_if, turn, turns_from, round, key_comes, without_wait, expire_at, expire_actor, expire_running, expire, happens, first_actor, main_actor}
-use Rattle.channel_laws.specs.Counts.{IsWithin, IfWithin, IsCounted, OpeningCounts}
+use Rattle.step_laws.specs.Counts.{IsWithin, IfWithin, IsCounted, OpeningCounts}
 use Rattle.chan_values.specs.declared.event.Event.{Event}
-use Rattle.channel_laws.proofs.CountingPlaces.{actor_within}
-use Rattle.channel_laws.proofs.CountingSteps.{hand_within, step_counts}
+use Rattle.step_laws.proofs.CountingPlaces.{actor_within}
+use Rattle.step_laws.proofs.CountingSteps.{hand_within, step_counts}
 use Rattle.chan_values.specs.declared.event.Event.TheVariants as event
 
 -- ---- events

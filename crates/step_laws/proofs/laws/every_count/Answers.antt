@@ -1,6 +1,6 @@
-use Rattle.channel_laws.proofs.CountingSteps.{step_counts}
-use Rattle.channel_laws.proofs.CountingEvents.{opening_counts, event_counts}
-use Rattle.channel_laws.proofs.laws.every_count.Goals as goal
+use Rattle.step_laws.proofs.CountingSteps.{step_counts}
+use Rattle.step_laws.proofs.CountingEvents.{opening_counts, event_counts}
+use Rattle.step_laws.proofs.laws.every_count.Goals as goal
 
 pub returns-clause-opening : goal.returns-clause-opening
 returns-clause-opening c = opening_counts
