@@ -1,0 +1,9 @@
+mod Lists
+mod Changes
+mod Walks
+mod Acts
+mod Outcomes
+mod Keeping
+mod Accesses
+mod Steps
+mod Events

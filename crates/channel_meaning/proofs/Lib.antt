@@ -1,0 +1,6 @@
+mod GoingOn
+mod Bounds
+mod Sources
+mod TaskRuns
+mod ObserverRuns
+mod KeyRuns

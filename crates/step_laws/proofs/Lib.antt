@@ -1,0 +1,10 @@
+mod Actors
+mod CountingPlaces
+mod CountingAccesses
+mod CountingSteps
+mod CountingEvents
+mod Isolated
+mod OwningPlaces
+mod OwningAccesses
+mod OwningSteps
+mod OwningEvents

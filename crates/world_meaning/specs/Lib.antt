@@ -1,0 +1,16 @@
+pub mod Channel
+pub mod Portables
+pub mod Labels
+pub mod Core
+pub mod Ending
+pub mod Agendas
+pub mod Effect
+pub mod Changing
+pub mod Control
+pub mod NodesMade
+pub mod Making
+pub mod Accesses
+pub mod Asking
+pub mod Entries
+pub mod Steps
+pub mod CanStep
