@@ -1,14 +1,13 @@
 -- What is written is read as the same file.
 use Rattle.std.proofs.Common.{◌≡◌, ℕ, zero, suc, Bool, true, false, cond, ◌||◌, List, [], ◌∷◌, ◌++◌, map, codes, Option, Some, None, refl, ap, sym, ◌∙◌, subst, append_assoc, append-nil}
-use Rattle.std.specs.List.{flat_map, list_any}
+use Rattle.std.specs.List.{flat_map}
 use Rattle.std.specs.Option.{option_map}
 use Rattle.std.specs.Prelude.{not}
-use Rattle.std.specs.Str.{bytes_eq, str_to_ascii_lowercase}
-use Rattle.std.proofs.lemmas.List.{map-append}
+use Rattle.std.specs.Str.{str_to_ascii_lowercase}
 use Rattle.std.proofs.lemmas.Slice.Eq.{bytes_eq-Decides}
 use Rattle.xml_pieces.specs.declared.piece.AttributeText.{AttributeText}
 use Rattle.xml_pieces.specs.declared.piece.Tag.{Tag}
-use Rattle.xml_pieces.specs.Written.{has_name, is_empty, are_distinct, Written, Opening, Closing, Section, spelled, tag_of, strip, Cut}
+use Rattle.xml_pieces.specs.Written.{has_name, is_empty, are_distinct, Written, spelled, tag_of, strip}
 use Rattle.xml_pieces.proofs.Basics.{and_parts, and_both, not_true, not_false}
 use Rattle.component_files.specs.declared.place.Place.{Place}
 use Rattle.component_files.specs.declared.element.ComponentFile.{ComponentFile}
@@ -19,7 +18,7 @@ use Rattle.component_files.specs.declared.element.ScriptElement.{ScriptElement}
 use Rattle.component_files.specs.declared.element.ChildElement.{ChildElement, out-ChildElement, roll-ChildElement}
 use Rattle.component_files.specs.Places.{place_after}
 use Rattle.component_files.specs.Elements.{same, alike, value_of, needed, header, truth, field, function, script, is_whole, has_alike, are_unlike, without_colons, child, opening_child}
-use Rattle.component_files.specs.ComponentGrammar.{Mark, Open, Close, Data, marks, text_marks, fits, Each, IsEmpty, Member, Field, Function, Members, with_member, with_members, data_marks, IsScript, IsChild, Child, IsPart, Part, Interface, Script, Children, Parts, with_part, with_parts, IsFile, IsText, IsComponent}
+use Rattle.component_files.specs.ComponentGrammar.{Mark, Open, Close, marks, Each, IsEmpty, Member, Field, Function, Members, with_members, data_marks, IsScript, Child, IsPart, Part, Interface, Script, Children, Parts, with_parts, IsFile}
 use Rattle.component_files.proofs.Leads.{marks_append}
 use Rattle.component_files.proofs.Said.{field_said}
 use Rattle.component_writer.specs.Aside.{aside, aside_field, aside_function, aside_inline, aside_script, aside_child, ReadsAs}
@@ -27,7 +26,7 @@ use Rattle.component_writer.specs.Spelling.{attribute_text, optional, written_ta
 use Rattle.component_writer.proofs.Every.{Every, every_append}
 use Rattle.component_writer.proofs.TagsLemmas
 use Rattle.component_writer.proofs.TagsLemmas.{IsName, IsValue, GoodAttribute, written_tag_is, said, same_tag, same_attributes, AreTags, tags_cut, tags_append, tags_each}
-use Rattle.component_writer.proofs.Good.{IsOptional, GoodField, GoodFunction, IsInline, GoodScript, IsGoodChild, GoodChild, GoodFile}
+use Rattle.component_writer.proofs.Good.{IsOptional, GoodField, GoodFunction, IsInline, GoodScript, GoodChild, GoodFile}
 use Rattle.component_writer.proofs.AsideLemmas.{aside_of, aside_made}
 
 -- ---- names

@@ -1,24 +1,22 @@
 -- What was read can be written.
-use Rattle.std.proofs.Common.{◌≡◌, ℕ, zero, suc, Bool, true, false, not, cond, ◌||◌, ◌&&◌, ◌⊎◌, inl, inr, List, [], ◌∷◌, ◌++◌, map, codes, Option, Some, None, refl, ap, sym, ◌∙◌, subst}
-use Rattle.std.specs.List.{list_all, list_any, flat_map}
-use Rattle.std.specs.Str.{is_utf8}
+use Rattle.std.proofs.Common.{◌≡◌, ℕ, zero, suc, Bool, true, false, not, cond, ◌||◌, inl, inr, List, [], ◌∷◌, ◌++◌, map, codes, Option, Some, None, refl, ap, sym, ◌∙◌, subst}
+use Rattle.std.specs.List.{list_all}
 use Rattle.xml_pieces.specs.declared.piece.AttributeText.{AttributeText}
 use Rattle.xml_pieces.specs.declared.piece.Tag.{Tag}
-use Rattle.xml_pieces.specs.Reading.{bind}
 use Rattle.xml_pieces.specs.Written.{is_space, has_name, is_empty, EndsFirst, AreAttributes, attribute_of, tag_of, opening_of, text_of, Written, Declaration, Comment, Section, Opening, Closing, Between, spelled, piece_of, IsWritten, Cut}
-use Rattle.xml_pieces.proofs.Basics.{bind_some, chosen, and_parts, and_both, not_true, not_false, or_parts}
+use Rattle.xml_pieces.proofs.Basics.{bind_some, chosen, and_parts, and_both, not_true, not_false}
 use Rattle.component_files.specs.declared.place.Place.{Place}
 use Rattle.component_files.specs.declared.element.ComponentFile.{ComponentFile}
 use Rattle.component_files.specs.declared.element.FieldElement.{FieldElement}
 use Rattle.component_files.specs.declared.element.FunctionElement.{FunctionElement}
 use Rattle.component_files.specs.declared.element.InlineScript.{InlineScript}
 use Rattle.component_files.specs.declared.element.ScriptElement.{ScriptElement}
-use Rattle.component_files.specs.declared.element.ChildElement.{ChildElement, ChildElement-F, roll-ChildElement}
+use Rattle.component_files.specs.declared.element.ChildElement.{ChildElement, ChildElement-F}
 use Rattle.component_files.specs.declared.element.ChildElement.TheViews.{out-roll-ChildElement}
 use Rattle.component_files.specs.Places.{place_after}
-use Rattle.component_files.specs.Elements.{same, alike, value_of, filled, needed, or_else, group, header, truth, field, function, script, has_alike, are_unlike, has_colon, without_colons, child, opening_child}
+use Rattle.component_files.specs.Elements.{same, alike, value_of, filled, needed, or_else, group, header, truth, field, function, has_alike, are_unlike, has_colon, without_colons}
 use Rattle.component_files.specs.Steps.{is_declaration}
-use Rattle.component_files.specs.ComponentGrammar.{Mark, Open, Close, Data, Wrong, marks_of, marks, text_marks, Each, IsEmpty, Member, Field, Function, Members, with_member, with_members, data_marks, IsScript, IsChild, Child, IsPart, Part, Interface, Script, Children, Parts, with_part, with_parts, IsFile, IsText, IsComponent}
+use Rattle.component_files.specs.ComponentGrammar.{Mark, Open, Close, Data, Wrong, marks_of, marks, text_marks, Each, Member, Field, Function, Members, with_member, with_members, data_marks, IsScript, Child, Part, Interface, Script, Children, Parts, with_part, with_parts, IsFile, IsText, IsComponent}
 use Rattle.component_writer.proofs.Every.{Every, every_append, every_front, every_back}
 use Rattle.component_writer.proofs.TagsLemmas.{IsName, IsValue, GoodAttribute, group_value}
 use Rattle.component_writer.proofs.Good.{IsOptional, GoodField, GoodFunction, IsInline, GoodScript, IsGoodChild, GoodChild, GoodFile}

@@ -1,6 +1,5 @@
 -- What of a component file can be written.
-use Rattle.std.proofs.Common.{◌≡◌, ℕ, zero, suc, Bool, true, false, List, codes, Option, Some, None}
-use Rattle.std.specs.List.{list_all}
+use Rattle.std.proofs.Common.{◌≡◌, ℕ, zero, suc, true, false, List, codes, Option, Some, None}
 use Rattle.xml_pieces.specs.Written.{is_empty, EndsFirst}
 use Rattle.component_files.specs.declared.element.ComponentFile.{ComponentFile}
 use Rattle.component_files.specs.declared.element.FieldElement.{FieldElement}

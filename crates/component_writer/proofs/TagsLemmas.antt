@@ -6,7 +6,7 @@ use Rattle.std.proofs.lemmas.Bool.{eqb-true}
 use Rattle.std.proofs.lemmas.List.Folds.{list_all-append}
 use Rattle.xml_pieces.specs.declared.piece.AttributeText.{AttributeText}
 use Rattle.xml_pieces.specs.declared.piece.Tag.{Tag}
-use Rattle.xml_pieces.specs.Written.{is_space, is_quote, is_name_byte, is_attribute_byte, differs, Stretch, Plain, Less, Ampersand, Quote, stretch, meant, is_allowed, AreAttributes, IsAttribute, attribute_of, IsTag, tag_of, are_distinct, Written, Opening, Closing, Section, spelled, IsWritten, MayPrecede, Cut}
+use Rattle.xml_pieces.specs.Written.{is_space, is_quote, is_name_byte, is_attribute_byte, differs, Stretch, Plain, Less, Ampersand, Quote, stretch, meant, is_allowed, AreAttributes, attribute_of, IsTag, tag_of, are_distinct, Written, spelled, IsWritten, MayPrecede, Cut}
 use Rattle.xml_pieces.proofs.Basics.{and_both, not_false, name_utf8}
 use Rattle.component_writer.specs.Spelling.{stretch_of, written_attribute, written_tag, attribute_text}
 use Rattle.component_writer.proofs.Every.{Every}

@@ -1,10 +1,10 @@
 -- Files that were read can be written, and their spelling is read as the same file.
-use Rattle.std.proofs.Common.{◌≡◌, ℕ, List, refl, sym, subst, ◌∙◌}
+use Rattle.std.proofs.Common.{ℕ, List, refl, subst, ◌∙◌}
 use Rattle.std.specs.List.{flat_map}
 use Rattle.xml_pieces.specs.Written.{spelled}
 use Rattle.component_files.specs.declared.element.ComponentFile.{ComponentFile}
 use Rattle.component_files.specs.ComponentGrammar.{IsComponent}
-use Rattle.component_writer.specs.Aside.{aside, ReadsAs, CanBeRead}
+use Rattle.component_writer.specs.Aside.{ReadsAs, CanBeRead}
 use Rattle.component_writer.specs.Spelling.{file_pieces}
 use Rattle.component_writer.proofs.AsideLemmas.{one_spelling}
 use Rattle.component_writer.proofs.Derived.{component_good}

@@ -1,5 +1,5 @@
 -- Component files, their lines and columns aside.
-use Rattle.std.specs.Prelude.{◌≡◌, ℕ, List, map, Option, option_map}
+use Rattle.std.specs.Prelude.{◌≡◌, ℕ, List, map, option_map}
 use Rattle.component_files.specs.declared.element.ComponentFile.{ComponentFile}
 use Rattle.component_files.specs.declared.element.FieldElement.{FieldElement}
 use Rattle.component_files.specs.declared.element.FunctionElement.{FunctionElement}
