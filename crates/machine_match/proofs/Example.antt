@@ -1,5 +1,5 @@
 -- `x = x + 1` in its code, its machine and its tree, worked out by hand.
-use Rattle.std.proofs.Common.{◌≡◌, ℕ, zero, suc, List, [], ◌∷◌, Some, None, Bool, true, false, cond, refl, subst}
+use Rattle.std.proofs.Common.{◌≡◌, ℕ, zero, suc, List, [], ◌∷◌, Option, Some, None, Bool, true, false, cond, refl, subst}
 use Rattle.std.specs.Prelude.{pos, codes, slice_get, nat_lt}
 use Rattle.std.specs.Int.{int_wrap}
 use Rattle.brs_tokens.specs.declared.place.Place.{Place}
@@ -182,11 +182,11 @@ image_stands = record { functions = functions; built_ins = built_ins; numbers = 
     functions (suc n) = tt
 
     built_ins : (n : ℕ) → program.built_in n ≡ built_in_at image n
-    built_ins n = none_there (nat_lt n 1)
+    built_ins n = either_way (nat_lt n 1) None
       where
-        none_there : (b : Bool) → None {A = Text} ≡ cond b None None
-        none_there true = refl
-        none_there false = refl
+        either_way : (b : Bool) (o : Option Text) → o ≡ cond b o o
+        either_way true o = refl
+        either_way false o = refl
 
     scopes : (scope : ℕ) (y : Text) → scoped program scope y ≡ m.scoped image scope y
     scopes zero y = refl
