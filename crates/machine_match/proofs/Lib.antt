@@ -1,0 +1,13 @@
+mod Control
+mod Words
+mod NoCalls
+mod Heads
+mod Going
+mod Exits
+mod Statements
+mod Jobs
+mod Binding
+mod Steps
+mod Replies
+mod Example
+mod Waiting

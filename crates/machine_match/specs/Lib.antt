@@ -1,0 +1,4 @@
+pub mod Compiled
+pub mod Places
+pub mod Stands
+pub mod Laws

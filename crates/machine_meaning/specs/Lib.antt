@@ -1,0 +1,12 @@
+pub mod Image
+pub mod Frame
+pub mod Acted
+pub mod Setting
+pub mod Calls
+pub mod Statements
+pub mod Instructions
+pub mod Entering
+pub mod Stepping
+pub mod Answering
+pub mod Runs
+pub mod Laws
