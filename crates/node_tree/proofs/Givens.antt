@@ -43,7 +43,7 @@ get_take (x ∷ xs) (suc n) (suc i) h = get_take xs n i (omega arith)
 before : (plans : List KindPlan) (at : ℕ) (p : KindPlan) → slice_get plans at ≡ Some p → length (take at plans) ≡ at
 before plans at p e = let within = slice_get_within plans at p e in length-take-le at plans (omega arith)
 
-base_below : (plans : List KindPlan) → IsPlanTable plans → (at : ℕ) (p : KindPlan) → slice_get plans at ≡ Some p → (b : ℕ) → p.base ≡ Some b → b < at
+pub base_below : (plans : List KindPlan) → IsPlanTable plans → (at : ℕ) (p : KindPlan) → slice_get plans at ≡ Some p → (b : ℕ) → p.base ≡ Some b → b < at
 base_below plans table at p e b eb = subst (λ n. b < n) (before plans at p e) (subst (IsBase (length (take at plans)) p.kind) eb (table.each at p e).base)
 
 elements_below : (plans : List KindPlan) → IsPlanTable plans → (at : ℕ) (p : KindPlan) → slice_get plans at ≡ Some p → AreElements at (elements_of p.children)

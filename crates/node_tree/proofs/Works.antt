@@ -29,8 +29,8 @@ last_first plans rest e = ap (map (work_of plans)) (reverse-append rest (e ∷ [
 
 -- one element more
 pub pushed : (plans : List KindPlan) (parent : ℕ) (before pending new : List PendingElement) (done next : List ChildPlan) (e : PendingElement) → e.parent ≡ parent → new ≡ pending ++ e ∷ [] → next ≡ done ++ e.element.now ∷ [] → to_make plans pending ≡ map (element_work plans parent) (reverse done) ++ to_make plans before → to_make plans new ≡ map (element_work plans parent) (reverse next) ++ to_make plans before
-pushed plans parent before pending new done next e at more further so_far =
-    ap (to_make plans) more
+pushed plans parent before pending new done next e at grown further so_far =
+    ap (to_make plans) grown
     ∙ last_first plans pending e
     ∙ ap (λ k. element_work plans k e.element.now ∷ to_make plans pending) at
     ∙ ap (λ l. element_work plans parent e.element.now ∷ l) so_far
@@ -44,3 +44,7 @@ places_up (Some place) = suc place
 
 pub kind_over : (plans : List KindPlan) (parent place : ℕ) (o : Option ℕ) (rest all : List Work) → o ≡ Some place → slice_get plans place ≡ None → works parent (children_given (length plans) plans o) ++ rest ≡ all → rest ≡ all
 kind_over plans parent place o rest all e none_there is = sym (ap (λ q. works parent (children_given (length plans) plans q) ++ rest) e ∙ ap (λ ts. works parent ts ++ rest) (given_none plans place none_there)) ∙ is
+
+pub twice_reversed : {A : Type 0} (xs : List A) → reverse (reverse xs) ≡ xs
+twice_reversed [] = refl
+twice_reversed (x ∷ xs) = ap reverse (reverse-append (x ∷ []) xs) ∙ reverse-append (reverse xs) (x ∷ []) ∙ ap (λ l. x ∷ l) (twice_reversed xs)

@@ -8,16 +8,17 @@ use Rattle.node_tree.specs.Nodes.{node_at, owner_of}
 use Rattle.node_tree.specs.Family.{IsSound}
 use Rattle.node_tree.specs.Reach.{kin, named_by}
 
--- the node of a number, if there is one, is render's
-abbrev pub IsRenders : List Node → ℕ → Type 0
-IsRenders nodes n = (actor : ℕ) → owner_of nodes n ≡ Some actor → actor ≡ 0
+-- a link from a node of this owner may lead to a node of that owner: a node of render is linked with nodes of render alone
+abbrev pub MayLead : ℕ → Option ℕ → Type 0
+MayLead owner None = ⊥
+MayLead owner (Some other) = owner ≡ 0 → other ≡ 0
 
-pub record LeadsToRender (nodes : List Node) (x : Node) : Type 0 where
-  pub kin_of_render : AllByRecursion (IsRenders nodes) (kin x)
-  pub fields : AllByRecursion (IsRenders nodes) (named_by x.fields)
+pub record IsClosedAt (nodes : List Node) (x : Node) : Type 0 where
+  pub kin_of : AllByRecursion (λ n. MayLead x.owner (owner_of nodes n)) (kin x)
+  pub fields : AllByRecursion (λ n. MayLead x.owner (owner_of nodes n)) (named_by x.fields)
 
 abbrev pub IsClosed : List Node → Type 0
-IsClosed nodes = (n : ℕ) (x : Node) → node_at nodes n ≡ Some x → x.owner ≡ 0 → LeadsToRender nodes x
+IsClosed nodes = (n : ℕ) (x : Node) → node_at nodes n ≡ Some x → IsClosedAt nodes x
 
 -- what holds of the nodes, and what is known of their links
 pub record IsKept (nodes : List Node) (known : Bool) : Type 0 where
@@ -26,16 +27,13 @@ pub record IsKept (nodes : List Node) (known : Bool) : Type 0 where
 
 -- ---- the tests
 
-abbrev pub renders_in : Option Node → Bool
-renders_in None = true
-renders_in (Some x) = x.owner == 0
-
-abbrev pub is_renders : List Node → ℕ → Bool
-is_renders nodes n = renders_in (node_at nodes n)
+abbrev pub may_lead : ℕ → Option Node → Bool
+may_lead owner None = false
+may_lead owner (Some x) = not (owner == 0) || x.owner == 0
 
 -- is it known still, once a node of this owner names what a value names
 abbrev pub stays_closed : List Node → Bool → ℕ → Tree → Bool
-stays_closed nodes closed owner v = if not closed || not (owner == 0) then closed else list_all (is_renders nodes) (nodes_in v)
+stays_closed nodes closed owner v = if closed then list_all (λ n. may_lead owner (node_at nodes n)) (nodes_in v) else false
 
 -- both owners are render, or neither
 abbrev pub are_alike : ℕ → ℕ → Bool

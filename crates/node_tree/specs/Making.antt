@@ -2,17 +2,15 @@
 use Rattle.std.specs.Prelude.{ℕ, zero, suc, ◌+◌, List, [], ◌∷◌, ◌++◌, Option, Some, None, map, length, slice_get}
 use Rattle.std.specs.List.{flat_map}
 use Rattle.chan_values.specs.Folded.{folded}
-use Rattle.chan_values.specs.Tree.{Tree}
 use Rattle.chan_values.specs.View.{tree_of}
 use Rattle.field_types.specs.declared.plans.AttributeValue.{AttributeValue}
 use Rattle.field_types.specs.declared.plans.FieldPlan.{FieldPlan}
 use Rattle.field_types.specs.declared.plans.KindPlan.{KindPlan}
 use Rattle.field_types.specs.Elements.{Elements, none as no_element}
 use Rattle.field_types.specs.Plans.{elements_of}
-use Rattle.field_types.specs.Words.{is_alike}
 use Rattle.node_tree.specs.declared.field.Field.{Field}
 use Rattle.node_tree.specs.declared.node.Node.{Node}
-use Rattle.node_tree.specs.Nodes.{change_first}
+use Rattle.node_tree.specs.Fields.{with_value}
 use Rattle.node_tree.specs.Subtree.{Subtree, subtree, Subtrees, none, more, joined, size, of_elements}
 
 -- ---- the fields of a new node
@@ -46,14 +44,10 @@ lineage (suc most) plans (Some place) = lineage most plans (base_in (slice_get p
 abbrev pub kind_fields : List KindPlan → ℕ → List Field
 kind_fields plans place = flat_map (own_fields plans) (lineage (length plans) plans (Some place))
 
--- a field with another opening value, which it holds
-abbrev pub opened : Tree → Field → Field
-opened v f = record f { value = v; opening = v }
-
--- the fields of a node of a child element: what an attribute says is the opening value of the field of its name
+-- the fields of a node of a child element: the field that an attribute names begins with what the attribute says
 abbrev pub with_attributes : List AttributeValue → List Field → List Field
 with_attributes [] fields = fields
-with_attributes (v ∷ vs) fields = with_attributes vs (change_first (λ f. is_alike f.id v.field) (opened (tree_of v.value)) fields)
+with_attributes (v ∷ vs) fields = with_attributes vs (with_value v.field (tree_of v.value) fields)
 
 -- ---- what a making makes
 

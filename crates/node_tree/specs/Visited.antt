@@ -1,5 +1,7 @@
 -- A search over links, by the nodes that it has found.
 use Rattle.std.specs.Prelude.{◌≡◌, ℕ, ◌==◌, Bool, true, false, not, ◌||◌, List, [], ◌∷◌, ◌++◌, Option, Some, None}
+use Rattle.std.specs.Bool.{nat_eq}
+use Rattle.std.specs.List.{IsDistinct}
 use Rattle.node_tree.specs.declared.node.Node.{Node}
 use Rattle.node_tree.specs.Nodes.{node_at}
 use Rattle.node_tree.specs.Family.{has}
@@ -19,6 +21,7 @@ pub record IsVisited (goes : ℕ → Bool) (before after some : List ℕ) : Type
   pub is : after ≡ before ++ more
   pub each : (n : ℕ) → has n some ≡ true → goes n ≡ true → has n after ≡ true
   pub only : (n : ℕ) → has n more ≡ true → (has n some ≡ true) × (goes n ≡ true)
+  pub once : IsDistinct nat_eq before → IsDistinct nat_eq after
 
 abbrev pub linked_in : Option Node → List ℕ
 linked_in None = []

@@ -4,7 +4,7 @@ ghost use Rattle.std.specs.List.{list_all};
 ghost use Rattle.std.specs.Option.{option_copied};
 ghost use Rattle.chan_values.specs.View.{tree_of};
 ghost use Rattle.node_tree.specs.Nodes.{node_at};
-ghost use Rattle.node_tree.specs.Closed.{is_renders, stays_closed};
+ghost use Rattle.node_tree.specs.Closed.{may_lead, stays_closed};
 
 use crate::named::push_named;
 use crate::node::Node;
@@ -21,20 +21,20 @@ pub fn node_of(nodes: &[Node], node: u32) -> Option<&Node>
     }
 }
 
-/// Whether a node is render's. A number that is no node's counts as one.
-fn is_renders(nodes: &[Node], node: u32) -> bool
-    ensures { result ≡ is_renders nodes.now node }
+/// Whether a link from a node of this owner may lead to a node, so that nodes of render lead to nodes of render alone.
+fn may_lead(nodes: &[Node], owner: u32, node: u32) -> bool
+    ensures { result ≡ may_lead owner (node_at nodes.now node) }
 {
     match node_of(nodes, node) {
-        None => true,
-        Some(node) => node.owner == 0,
+        None => false,
+        Some(node) => owner != 0 || node.owner == 0,
     }
 }
 
-fn are_renders(nodes: &[Node], named: &[u32]) -> bool
-    ensures { result ≡ list_all (is_renders nodes.now) named.now }
+fn may_lead_to_all(nodes: &[Node], owner: u32, named: &[u32]) -> bool
+    ensures { result ≡ list_all (λ n. may_lead owner (node_at nodes.now n)) named.now }
 {
-    named.iter().all(|node| is_renders(nodes, *node))
+    named.iter().all(|node| may_lead(nodes, owner, *node))
 }
 
 /// Whether links from nodes of render are known to lead to nodes of render alone, once a field of a node of this owner holds a value.
@@ -47,10 +47,10 @@ pub fn stays_closed(
 ) -> Result<bool, NoMemory>
     ensures { IfOk result (λ stays. stays ≡ stays_closed nodes.now closed owner (tree_of value.now)) }
 {
-    if !closed || owner != 0 {
-        return Ok(closed);
+    if !closed {
+        return Ok(false);
     }
     let mut named = Vec::new(alloc);
     push_named(&mut named, value)?;
-    Ok(are_renders(nodes, named.as_slice()))
+    Ok(may_lead_to_all(nodes, owner, named.as_slice()))
 }

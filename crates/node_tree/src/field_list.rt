@@ -1,9 +1,7 @@
 //! The fields of a node, in order, found by their names in any case of the letters.
 ghost use Rattle.std.specs.Prelude.{◌≡◌, [], ◌∷◌, ◌++◌, ◌<◌, length, position, slice_get, option_copied, IfSome, IsSomeAnd, OnOk, OnErr};
 ghost use Rattle.field_types.specs.Words.{is_alike};
-ghost use Rattle.node_tree.specs.Nodes.{change_first};
 ghost use Rattle.node_tree.specs.Fields.{field_named, with_value};
-ghost use Rattle.node_tree.specs.Making.{opened};
 
 use crate::field::Field;
 use crate::held::Held;
@@ -77,17 +75,6 @@ impl FieldList {
     {
         if let Some(at) = self.place_of(name) {
             self.items[at].value = value;
-        }
-    }
-
-    /// Gives the field of this name another opening value, and that value.
-    pub fn open(&mut self, name: &[u8], value: Held, opening: Held)
-        requires { value ≡ opening }
-        ensures { self.new ≡ change_first (λ f. is_alike f.id name.now) (opened value) self.old }
-    {
-        if let Some(at) = self.place_of(name) {
-            self.items[at].value = value;
-            self.items[at].opening = opening;
         }
     }
 }

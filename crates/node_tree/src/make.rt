@@ -91,7 +91,8 @@ fn make_element<'a>(
         return Err(NoMemory);
     };
     push_elements(pending, element.children.as_slice(), at)?;
-    push_kind(pending, plans, element.place, at)
+    push_kind(pending, plans, element.place, at)?;
+    Ok(())
 }
 
 /// The nodes of one making, numbered from `first` on.
@@ -139,7 +140,7 @@ impl Nodes {
 
     /// Makes a node of a kind with all nodes below it, and answers its number. The nodes are numbered in preorder: the children
     /// that the kind's base gives come first, then those of the kind's own elements; the children that the kind of a child
-    /// element gives come before the elements in it. What attributes say are opening values. `TooManyNodes` comes exactly where there would
+    /// element gives come before the elements in it. A field that an attribute names begins with what it says. `TooManyNodes` comes exactly where there would
     /// be more than `MAX_NODES` nodes. After an `Err` nothing has changed.
     ///
     /// Source: SceneGraph Reference, "roSGNode", and SceneGraph XML Guide, "children".

@@ -1,9 +1,9 @@
 //! New nodes, and the fields that they begin with.
 ghost use Rattle.std.specs.Prelude.{◌≡◌, [], ◌++◌, length, map, reverse, slice_get, Some, IfOk, OnOk};
 ghost use Rattle.chan_values.specs.View.{tree_of};
-ghost use Rattle.field_types.specs.Words.{is_alike};
-ghost use Rattle.node_tree.specs.Nodes.{change_first};
-ghost use Rattle.node_tree.specs.Making.{opening_field, base_in, kind_in, own_fields, lineage, kind_fields, opened, with_attributes, made_node};
+ghost use Rattle.field_types.specs.Plans.{IsPlanTable};
+ghost use Rattle.node_tree.specs.Fields.{with_value};
+ghost use Rattle.node_tree.specs.Making.{opening_field, base_in, kind_in, own_fields, lineage, kind_fields, with_attributes, made_node};
 
 use crate::children::ChildList;
 use crate::field::Field;
@@ -91,36 +91,36 @@ fn push_fields_at(
     }
 }
 
-/// What an attribute says becomes the opening value of the field of its name. After an `Err` the fields are as they were.
-fn open_field(
+/// The field that an attribute names holds what the attribute says. After an `Err` the fields are as they were.
+fn set_attribute(
     alloc: Global,
     fields: &mut FieldList,
     attribute: &AttributeValue,
 ) -> Result<(), NoMemory>
-    ensures { OnOk result (fields.new ≡ change_first (λ f. is_alike f.id attribute.now.field) (opened (tree_of attribute.now.value)) fields.old) }
+    ensures { OnOk result (fields.new ≡ with_value attribute.now.field (tree_of attribute.now.value) fields.old) }
 {
-    let value = Held::new(copy_portable(alloc, &attribute.value)?);
-    let opening = Held::new(copy_portable(alloc, &attribute.value)?);
-    fields.open(attribute.field.as_str().as_bytes(), value, opening);
+    let value = copy_portable(alloc, &attribute.value)?;
+    fields.set(attribute.field.as_str().as_bytes(), Held::new(value));
     Ok(())
 }
 
-/// What the attributes of a child element say becomes the opening values of its node's fields.
-fn open_fields(
+/// The fields that the attributes of a child element name hold what these say.
+fn set_attributes(
     alloc: Global,
     fields: &mut FieldList,
-    values: &[AttributeValue],
+    attributes: &[AttributeValue],
 ) -> Result<(), NoMemory>
-    ensures { OnOk result (fields.new ≡ with_attributes values.now fields.old) }
+    ensures { OnOk result (fields.new ≡ with_attributes attributes.now fields.old) }
 {
-    for value in values {
-        open_field(alloc, fields, value)?;
+    for attribute in attributes {
+        set_attribute(alloc, fields, attribute)?;
     }
     Ok(())
 }
 
 fn kind_name(alloc: Global, plans: &PlanTable, place: u32) -> Result<Text, NoMemory>
-    ensures { IfOk result (λ name. name ≡ kind_in (slice_get plans.now place)) }
+    ensures name { IfOk result (λ name. name ≡ kind_in (slice_get plans.now place)) }
+    ensures table { IsPlanTable plans.now }
 {
     match plans.get(place as usize) {
         None => Ok(Text::new(alloc)),
@@ -137,12 +137,14 @@ pub fn new_node(
     owner: u32,
     parent: Option<u32>,
 ) -> Result<Node, NoMemory>
-    ensures { IfOk result (λ node. node ≡ made_node plans.now owner parent place values.now []) }
+    ensures node { IfOk result (λ node. node ≡ made_node plans.now owner parent place values.now []) }
+    ensures table { IsPlanTable plans.now }
 {
+    let kind = kind_name(alloc, plans, place)?;
     let mut fields = kind_fields(alloc, plans, place)?;
-    open_fields(alloc, &mut fields, values)?;
+    set_attributes(alloc, &mut fields, values)?;
     Ok(Node {
-        kind: kind_name(alloc, plans, place)?,
+        kind,
         owner,
         parent,
         children: ChildList::new(alloc),

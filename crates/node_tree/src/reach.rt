@@ -2,7 +2,7 @@
 ghost use Rattle.std.specs.Prelude.{◌≡◌, [], ◌∷◌, IfOk, OnOk, OnErr};
 ghost use Rattle.node_tree.specs.Nodes.{IsNode, with_node};
 ghost use Rattle.node_tree.specs.Family.{has};
-ghost use Rattle.node_tree.specs.Reach.{kin, named_by, changed_where, render_owned, given};
+ghost use Rattle.node_tree.specs.Reach.{parent_and, kin, named_by, changed_where, render_owned, given};
 ghost use Rattle.node_tree.specs.Visited.{is_open, linked_from, IsVisited, IsReach};
 
 use crate::closed::node_of;
@@ -26,12 +26,7 @@ fn is_open(nodes: &[Node], closed: bool, node: u32) -> bool
 }
 
 /// Adds a node to those that were found.
-fn visit(
-    nodes: &[Node],
-    closed: bool,
-    found: &mut IndexSet<u32>,
-    node: u32,
-) -> Result<(), NoMemory>
+fn visit(nodes: &[Node], closed: bool, found: &mut IndexSet<u32>, node: u32) -> Result<(), NoMemory>
     ensures { OnOk result (IsVisited (is_open nodes.now closed) found.old.keys found.new.keys (node ∷ [])) }
 {
     if !is_open(nodes, closed, node) {
@@ -58,6 +53,21 @@ fn visit_all(
     Ok(())
 }
 
+/// Adds a parent, if there is one.
+fn visit_parent(
+    nodes: &[Node],
+    closed: bool,
+    found: &mut IndexSet<u32>,
+    parent: Option<u32>,
+) -> Result<(), NoMemory>
+    ensures { OnOk result (IsVisited (is_open nodes.now closed) found.old.keys found.new.keys (parent_and parent [])) }
+{
+    match parent {
+        None => Ok(()),
+        Some(parent) => visit(nodes, closed, found, parent),
+    }
+}
+
 /// Adds the parent and the children of a node.
 fn visit_kin(
     nodes: &[Node],
@@ -67,10 +77,9 @@ fn visit_kin(
 ) -> Result<(), NoMemory>
     ensures { OnOk result (IsVisited (is_open nodes.now closed) found.old.keys found.new.keys (kin node.now)) }
 {
-    if let Some(parent) = node.parent {
-        visit(nodes, closed, found, parent)?;
-    }
-    visit_all(nodes, closed, found, node.children.as_slice())
+    visit_parent(nodes, closed, found, node.parent)?;
+    visit_all(nodes, closed, found, node.children.as_slice())?;
+    Ok(())
 }
 
 /// Adds the nodes that fields name.
@@ -105,23 +114,18 @@ fn visit_linked(
         return Ok(());
     };
     visit_kin(nodes, closed, found, node)?;
-    visit_named(alloc, nodes, closed, found, node.fields.as_slice())
+    visit_named(alloc, nodes, closed, found, node.fields.as_slice())?;
+    Ok(())
 }
 
 /// The nodes that a node reaches, but where links from nodes of render lead to nodes of render alone, without those behind such nodes.
-fn reach(
-    alloc: Global,
-    nodes: &[Node],
-    closed: bool,
-    node: u32,
-) -> Result<IndexSet<u32>, NoMemory>
+fn reach(alloc: Global, nodes: &[Node], closed: bool, node: u32) -> Result<IndexSet<u32>, NoMemory>
     ensures { IfOk result (λ found. IsReach nodes.now closed node found.keys) }
 {
     let mut found = IndexSet::new(alloc);
     visit(nodes, closed, &mut found, node)?;
     let mut at = 0;
-    while let Some(next) = found.get_index(at) {
-        let next = *next;
+    while let Some(next) = found.get_index(at).copied() {
         visit_linked(alloc, nodes, closed, &mut found, next)?;
         at += 1;
     }
@@ -129,8 +133,8 @@ fn reach(
 }
 
 /// Gives a node to render, if the number is a node's.
-fn give_one(nodes: &mut [Node], node: u32)
-    ensures { nodes.new ≡ with_node render_owned nodes.old node }
+fn give_one(nodes: &mut Vec<Node>, node: u32)
+    ensures { nodes.new.items ≡ with_node render_owned nodes.old.items node }
 {
     let Some(place) = node.checked_sub(1) else {
         return;
@@ -141,8 +145,8 @@ fn give_one(nodes: &mut [Node], node: u32)
 }
 
 /// Gives nodes to render.
-fn give_each(nodes: &mut [Node], found: &[u32])
-    ensures { nodes.new ≡ changed_where (λ n. has n found.now) render_owned 1 nodes.old }
+fn give_each(nodes: &mut Vec<Node>, found: &[u32])
+    ensures { nodes.new.items ≡ changed_where (λ n. has n found.now) render_owned 1 nodes.old.items }
 {
     for node in found {
         give_one(nodes, *node);
@@ -160,7 +164,7 @@ impl Nodes {
         ensures err { OnErr result (self.new ≡ self.old) }
     {
         let found = reach(self.alloc, self.nodes.as_slice(), self.closed, node)?;
-        give_each(self.nodes.as_mut_slice(), found.as_slice());
+        give_each(&mut self.nodes, found.as_slice());
         Ok(())
     }
 }
