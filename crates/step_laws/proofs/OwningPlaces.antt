@@ -11,7 +11,7 @@ use Rattle.brs_meaning.specs.Answering.{Values, Message', put, Reply, Value, Arg
 use Rattle.world_meaning.specs.Channel.{function_of_node, Channel, function_at}
 use Rattle.world_meaning.specs.Core.{homes_of_actor, store_of_actor, waiting_calls, Answer, Another, EntryEnd, Agenda, Deliveries, Inits, Called, Actor, Core, actor_at, change_actor, with_agendas, tree_of_actor, Moved}
 use Rattle.world_meaning.specs.Making.{below}
-use Rattle.std.proofs.Common.{◌≡◌, ℕ, zero, suc, ◌+◌, Bool, true, false, List, [], ◌∷◌, ◌++◌, Option, Some, None, refl, subst, inl, inr, ◌⊎◌}
+use Rattle.std.proofs.Common.{◌≡◌, ℕ, zero, suc, ◌+◌, Bool, true, false, List, [], ◌∷◌, ◌++◌, Option, Some, None, refl, subst, inl, inr, ◌⊎◌, ◌∙◌}
 use Rattle.chan_values.specs.Folded.{folded}
 use Rattle.chan_values.specs.declared.error_code.ErrorCode.TheVariants.{E9}
 use Rattle.chan_values.specs.declared.key.Key.{Key}
@@ -25,7 +25,6 @@ use Rattle.world_meaning.specs.Agendas.{Left, Came, TooLarge, settle, finish, ca
 use Rattle.world_meaning.specs.NodesMade.{nodes_made, most_nodes}
 use Rattle.field_types.specs.declared.plans.KindPlan.{KindPlan}
 use Rattle.node_tree.specs.Making.{numbered, kind_subtree, made, made_count}
-use Rattle.node_tree.specs.Subtree.{more}
 use Rattle.node_tree.specs.declared.children.Place.TheVariants.{Last}
 use Rattle.step_laws.proofs.Actors.{posts_handed}
 use Rattle.chan_values.specs.declared.error_code.ErrorCode.{ErrorCode}
@@ -55,9 +54,9 @@ owner_front_at (x ∷ xs) ys zero a e = e
 owner_front_at (x ∷ xs) ys (suc i) a e = owner_front_at xs ys i a e
 
 -- the nodes that were there keep their owners where others are made
-owner_front : (nodes more : List Node) (n a : ℕ) → owner_of nodes n ≡ Some a → owner_of (nodes ++ more) n ≡ Some a
-owner_front nodes more zero a e = absurd (no_owner a e)
-owner_front nodes more (suc i) a e = owner_front_at nodes more i a e
+owner_front : (nodes new : List Node) (n a : ℕ) → owner_of nodes n ≡ Some a → owner_of (nodes ++ new) n ≡ Some a
+owner_front nodes new zero a e = absurd (no_owner a e)
+owner_front nodes new (suc i) a e = owner_front_at nodes new i a e
 
 -- an owner is as it was, or render's, where some nodes are given to render
 given_at : (p : ℕ → Bool) (k : ℕ) (xs : List Node) (i a : ℕ) → option_map (λ x. x.owner) (slice_get xs i) ≡ Some a → (option_map (λ x. x.owner) (slice_get (changed_where p render_owned k xs) i) ≡ Some 0) ⊎ (option_map (λ x. x.owner) (slice_get (changed_where p render_owned k xs) i) ≡ Some a)
@@ -86,12 +85,12 @@ same_at nodes after n a q (inr e) = inr (q ∙ e)
 pub same_owners : (base after nodes : List Node) → ((i : ℕ) → owner_of after i ≡ owner_of nodes i) → OnlyToRender base nodes → OnlyToRender base after
 same_owners base after nodes same w n a e = same_at nodes after n a (same n) (w n a e)
 
-front_at : (nodes more : List Node) (n a : ℕ) → (owner_of nodes n ≡ Some 0) ⊎ (owner_of nodes n ≡ Some a) → (owner_of (nodes ++ more) n ≡ Some 0) ⊎ (owner_of (nodes ++ more) n ≡ Some a)
-front_at nodes more n a (inl e) = inl (owner_front nodes more n 0 e)
-front_at nodes more n a (inr e) = inr (owner_front nodes more n a e)
+front_at : (nodes new : List Node) (n a : ℕ) → (owner_of nodes n ≡ Some 0) ⊎ (owner_of nodes n ≡ Some a) → (owner_of (nodes ++ new) n ≡ Some 0) ⊎ (owner_of (nodes ++ new) n ≡ Some a)
+front_at nodes new n a (inl e) = inl (owner_front nodes new n 0 e)
+front_at nodes new n a (inr e) = inr (owner_front nodes new n a e)
 
-pub more_nodes : (base nodes more : List Node) → OnlyToRender base nodes → OnlyToRender base (nodes ++ more)
-more_nodes base nodes more w n a e = front_at nodes more n a (w n a e)
+pub more_nodes : (base nodes new : List Node) → OnlyToRender base nodes → OnlyToRender base (nodes ++ new)
+more_nodes base nodes new w n a e = front_at nodes new n a (w n a e)
 
 given_from : (nodes : List Node) (roots : List ℕ) (n a : ℕ) → (owner_of nodes n ≡ Some 0) ⊎ (owner_of nodes n ≡ Some a) → (owner_of (given nodes roots) n ≡ Some 0) ⊎ (owner_of (given nodes roots) n ≡ Some a)
 given_from nodes roots n a (inl e) = either_zero (given nodes roots) n a (given_owner nodes roots n 0 e)

@@ -27,7 +27,7 @@ use Rattle.world_meaning.specs.Effect.{Result, Gives, Raises, Jobs, Calls}
 use Rattle.world_meaning.specs.NodesMade.{nodes_made}
 use Rattle.world_meaning.specs.Asking.{make_port, take_message, is_local, set_own_by, made_own, make_own, own_effect, answer_own, access_by, ask, most_ports}
 use Rattle.world_meaning.specs.Entries.{give_to_render, last_of, set_state_by, set_state, begin_entry, closed, end_entry, at_inbox, state_word}
-use Rattle.world_meaning.specs.Steps.{put_back, first_asks, first_shows, if_idle, first_waits, step_first, other_shows, waits, unless, step_other, step_live, step_actor, step_running}
+use Rattle.world_meaning.specs.Steps.{step, put_back, first_asks, first_shows, if_idle, first_waits, step_first, other_shows, waits, unless, step_other, step_live, step_actor, step_running}
 use Rattle.step_laws.proofs.Actors.{posts_handed}
 use Rattle.chan_values.specs.declared.error_code.ErrorCode.{ErrorCode}
 use Rattle.chan_values.specs.declared.place.Place.{Place}
