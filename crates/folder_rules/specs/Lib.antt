@@ -1,0 +1,9 @@
+pub mod Names
+pub mod Kinds
+pub mod Children
+pub mod Scripts
+pub mod Faults
+pub mod KindFaults
+pub mod FieldFaults
+pub mod ScriptFaults
+pub mod FirstFault
