@@ -15,7 +15,7 @@ use Rattle.folder_rules.specs.Kinds.{built_in_kinds, built_in_names, all_kinds, 
 use Rattle.folder_rules.specs.Scripts.{numbered, scope_of, function_named, path_of_uri}
 use Rattle.folder_rules.specs.Faults.{fault_on, first}
 use Rattle.folder_rules.specs.KindFaults.{duplicate_components, unknown_bases}
-use Rattle.folder_rules.specs.FieldFaults.{duplicate_fields, bad_types}
+use Rattle.folder_rules.specs.FieldFaults.{duplicate_fields, bad_type, bad_types}
 use Rattle.folder_rules.specs.ScriptFaults.{missing_scripts, duplicate_functions, duplicate_fault, unknown_functions, no_main, no_main_fault}
 
 abbrev component : List ℕ → List ℕ → List ℕ → List FieldElement → List FunctionElement → List ScriptElement → PathedComponent
@@ -35,7 +35,7 @@ function name line = record { name = name; line = line; column = 5 }
 
 -- the names of the built-in kinds are those of their table
 names_are_of_the_table : map (λ k. k.name) built_in_kinds ≡ built_in_names
-unfolding built_in_kinds
+unfolding built_in_kinds built_in_names
 names_are_of_the_table = refl
 
 -- ---- a component with an unknown base, and one with a word that is no type
@@ -44,25 +44,29 @@ abbrev unknown : List PathedComponent
 unknown = component (codes "components/a.xml") (codes "A") (codes "Nope") [] [] [] ∷ []
 
 unknown_is_no_duplicate : duplicate_components unknown ≡ []
+unfolding built_in_names
 unknown_is_no_duplicate = refl
 
 unknown_is_found : first (unknown_bases unknown) ≡ Some (fault_on 10 (codes "components/a.xml") 1 (codes "nope"))
+unfolding built_in_names
 unknown_is_found = refl
 
 abbrev badly_typed : List PathedComponent
 badly_typed = component (codes "components/a.xml") (codes "A") (codes "Group") (field (codes "F") (codes "float") 1 ∷ []) [] [] ∷ []
 
 base_is_known : unknown_bases badly_typed ≡ []
+unfolding built_in_names
 base_is_known = refl
 
 bad_type_is_found : first (bad_types badly_typed) ≡ Some (fault_on 15 (codes "components/a.xml") 1 (codes "f"))
-unfolding words.is_alike
+unfolding words.is_alike bad_type
 bad_type_is_found = refl
 
 -- ---- two components of one name, in any case of its letters
 
 twice : first (duplicate_components (component (codes "components/a.xml") (codes "A") (codes "Group") [] [] [] ∷ (component (codes "components/b.xml") (codes "a") (codes "Group") [] [] [] ∷ [])))
     ≡ Some (fault_on 9 (codes "components/b.xml") 1 (codes "a"))
+unfolding built_in_names
 twice = refl
 
 -- ---- a base and a derived component, with functions of one name
@@ -108,7 +112,7 @@ source_is_no_scope_of_components : first (unknown_functions (numbered 0 texts) f
 unfolding built_in_kinds written.strip
 source_is_no_scope_of_components = refl
 
-main_is_there : no_main (numbered 0 texts) ≡ []
+main_is_there : no_main texts ≡ []
 unfolding written.strip
 main_is_there = refl
 
@@ -128,6 +132,6 @@ no_file_of_that_name = refl
 
 -- ---- an empty source file, and no other
 
-nothing_to_start : first (no_main (numbered 0 (source (codes "source/main.brs") [] ∷ []))) ≡ Some no_main_fault
+nothing_to_start : first (no_main (source (codes "source/main.brs") [] ∷ [])) ≡ Some no_main_fault
 unfolding written.strip
 nothing_to_start = refl

@@ -1,5 +1,5 @@
 -- Faults of fields: ids that stand twice, words that are no type, and texts that a field's type doesn't read.
-use Rattle.std.specs.Prelude.{ℕ, Bool, List, [], ◌∷◌, ◌++◌, Option, Some, None, is_none, map}
+use Rattle.std.specs.Prelude.{ℕ, Bool, ◌||◌, List, [], ◌∷◌, ◌++◌, Option, Some, None, is_none, map}
 use Rattle.std.specs.List.{flat_map}
 use Rattle.chan_values.specs.Folded.{folded}
 use Rattle.chan_values.specs.Tree.{Tree}
@@ -17,20 +17,32 @@ use Rattle.folder_rules.specs.Faults.{fault_on, fault_where, is_before, in_order
 
 -- ---- an id already among the component's fields or its base's
 
-abbrev pub repeated_ids : List ℕ → List (List ℕ) → List FieldElement → List FolderFault
-repeated_ids path before [] = []
-repeated_ids path before (e ∷ es) = fault_where (is_among before (folded e.id)) (fault_on 14 path e.line (folded e.id)) ++ repeated_ids path (before ++ folded e.id ∷ []) es
+-- whether a field is inherited says the test; these are the ids of the fields before
+abbrev pub repeated_ids : (List ℕ → Bool) → List ℕ → List (List ℕ) → List FieldElement → List FolderFault
+repeated_ids is_inherited path before [] = []
+repeated_ids is_inherited path before (e ∷ es) =
+    fault_where (is_inherited (folded e.id) || is_among before (folded e.id)) (fault_on 14 path e.line (folded e.id))
+    ++ repeated_ids is_inherited path (before ++ folded e.id ∷ []) es
+
+abbrev pub inherited_ids : List Kind → PathedComponent → List (List ℕ)
+inherited_ids kinds c = map (λ f. f.id) (field_table kinds (base_name c))
+
+abbrev pub duplicate_fields_in : List Kind → PathedComponent → List FolderFault
+duplicate_fields_in kinds c = repeated_ids (is_among (inherited_ids kinds c)) c.path [] c.file.fields
 
 abbrev pub duplicate_fields : List PathedComponent → List FolderFault
-duplicate_fields components = flat_map (λ c. repeated_ids c.path (map (λ f. f.id) (field_table (all_kinds components) (base_name c))) c.file.fields) components
+duplicate_fields components = flat_map (duplicate_fields_in (all_kinds components)) components
 
 -- ---- a type word outside the table of types
 
-abbrev pub bad_type : List ℕ → FieldElement → List FolderFault
+unfoldable pub bad_type : List ℕ → FieldElement → List FolderFault
 bad_type path e = fault_where (is_none (type_beside type_words e.word)) (fault_on 15 path e.line (folded e.id))
 
+abbrev pub bad_types_in : PathedComponent → List FolderFault
+bad_types_in c = flat_map (bad_type c.path) c.file.fields
+
 abbrev pub bad_types : List PathedComponent → List FolderFault
-bad_types components = flat_map (λ c. flat_map (bad_type c.path) c.file.fields) components
+bad_types components = flat_map bad_types_in components
 
 -- ---- a value text that its field's type doesn't read, in a field or in an attribute of a child of a known kind
 

@@ -1,5 +1,5 @@
 -- Faults of the kinds of a channel: names that stand twice, bases and child kinds that are unknown, and components that are reached from themselves.
-use Rattle.std.specs.Prelude.{◌≡◌, ℕ, not, List, [], ◌∷◌, ◌++◌, map, Contains, IsTrue}
+use Rattle.std.specs.Prelude.{◌≡◌, ℕ, Bool, not, List, [], ◌∷◌, ◌++◌, map, Contains, IsTrue}
 use Rattle.std.specs.List.{flat_map}
 use Rattle.chan_values.specs.Folded.{folded}
 use Rattle.chan_values.specs.declared.folder_fault.FolderFault.{FolderFault}
@@ -20,11 +20,11 @@ duplicate_components components = repeated_names built_in_names components
 
 -- ---- a base that is neither a built-in kind nor a component
 
-abbrev pub unknown_base : List (List ℕ) → PathedComponent → List FolderFault
-unknown_base names c = fault_where (not (is_among names (base_name c))) (fault_on 10 c.path c.file.line (base_name c))
+abbrev pub unknown_base : (List ℕ → Bool) → PathedComponent → List FolderFault
+unknown_base is_kind c = fault_where (not (is_kind (base_name c))) (fault_on 10 c.path c.file.line (base_name c))
 
 abbrev pub unknown_bases : List PathedComponent → List FolderFault
-unknown_bases components = flat_map (unknown_base (kind_names components)) components
+unknown_bases components = flat_map (unknown_base (is_among (kind_names components))) components
 
 -- ---- a component reached from itself by bases and child kinds
 
@@ -52,8 +52,11 @@ cycle_fault c = fault_on 11 c.path c.file.line (component_name c)
 
 -- ---- a child kind that is neither a built-in kind nor a component
 
-abbrev pub unknown_child : List (List ℕ) → List ℕ → ChildTag → List FolderFault
-unknown_child names path tag = fault_where (not (is_among names (folded tag.kind))) (fault_on 18 path tag.line (folded tag.kind))
+abbrev pub unknown_child : (List ℕ → Bool) → List ℕ → ChildTag → List FolderFault
+unknown_child is_kind path tag = fault_where (not (is_kind (folded tag.kind))) (fault_on 18 path tag.line (folded tag.kind))
+
+abbrev pub unknown_children_in : (List ℕ → Bool) → PathedComponent → List FolderFault
+unknown_children_in is_kind c = flat_map (unknown_child is_kind c.path) (child_tags c.file.children)
 
 abbrev pub unknown_children : List PathedComponent → List FolderFault
-unknown_children components = flat_map (λ c. flat_map (unknown_child (kind_names components) c.path) (child_tags c.file.children)) components
+unknown_children components = flat_map (unknown_children_in (is_among (kind_names components))) components

@@ -42,7 +42,7 @@ built_in_kinds =
     ∷ []
 
 -- their names
-abbrev pub built_in_names : List (List ℕ)
+unfoldable pub built_in_names : List (List ℕ)
 built_in_names =
     codes "node"
     ∷ codes "group"

@@ -3,6 +3,7 @@ pub mod Kinds
 pub mod Children
 pub mod Scripts
 pub mod Faults
+pub mod Answers
 pub mod KindFaults
 pub mod FieldFaults
 pub mod ScriptFaults

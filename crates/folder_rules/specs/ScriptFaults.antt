@@ -1,7 +1,8 @@
 -- Faults of scripts and functions: addresses that name no file, names that stand twice in one scope level, and functions that aren't there.
-use Rattle.std.specs.Prelude.{ℕ, Bool, true, false, not, ◌&&◌, if◌then◌else◌, List, [], ◌∷◌, ◌++◌, Option, Some, None, codes, map, filter}
+use Rattle.std.specs.Prelude.{ℕ, Bool, true, false, not, ◌&&◌, ◌||◌, if◌then◌else◌, List, [], ◌∷◌, ◌++◌, Option, Some, None, codes, map, filter}
 use Rattle.std.specs.List.{flat_map, list_any}
 use Rattle.std.specs.Ordering.{nat_cmp}
+use Rattle.std.specs.Str.{bytes_eq}
 use Rattle.std.specs.Cmp.Lexicographic.{slice_cmp}
 use Rattle.std.specs.declared.cmp.Ordering.{Ordering}
 use Rattle.std.specs.declared.cmp.Ordering.TheVariants.{Less, Equal, Greater}
@@ -11,9 +12,11 @@ use Rattle.component_files.specs.declared.element.FieldElement.{FieldElement}
 use Rattle.component_files.specs.declared.element.FunctionElement.{FunctionElement}
 use Rattle.component_files.specs.declared.element.ScriptElement.{ScriptElement}
 use Rattle.folder_rules.specs.declared.component.PathedComponent.{PathedComponent}
+use Rattle.folder_rules.specs.declared.source.DeclaredFunction.{DeclaredFunction}
+use Rattle.folder_rules.specs.declared.source.SourceFunctions.{SourceFunctions}
 use Rattle.folder_rules.specs.Names.{is_among}
 use Rattle.folder_rules.specs.Kinds.{component_name}
-use Rattle.folder_rules.specs.Scripts.{Source, Function, is_file, path_of_uri, own_functions, scope_of, source_functions}
+use Rattle.folder_rules.specs.Scripts.{Source, Function, is_file, is_in_source, path_of_uri, own_functions, scope_of, source_functions}
 use Rattle.folder_rules.specs.Faults.{fault_on, fault_where, is_before, in_order}
 
 -- ---- a uri that names no source file
@@ -86,8 +89,12 @@ unknown_functions sources components = flat_map (λ c. flat_map (unknown_functio
 abbrev pub no_main_fault : FolderFault
 no_main_fault = record { number = 19; path = []; line = 0; column = 0; name = [] }
 
-abbrev pub has_main : List (List ℕ) → Bool
-has_main names = list_any (λ name. is_among names name) (codes "main" ∷ codes "runuserinterface" ∷ [])
+-- a function with which a channel may start
+abbrev pub is_start : DeclaredFunction → Bool
+is_start f = bytes_eq (codes "main") f.name || bytes_eq (codes "runuserinterface") f.name
 
-abbrev pub no_main : List Source → List FolderFault
-no_main sources = fault_where (not (has_main (map (λ f. f.name) (source_functions sources)))) no_main_fault
+abbrev pub has_start : SourceFunctions → Bool
+has_start s = is_in_source s && list_any is_start s.functions
+
+abbrev pub no_main : List SourceFunctions → List FolderFault
+no_main sources = fault_where (not (list_any has_start sources)) no_main_fault

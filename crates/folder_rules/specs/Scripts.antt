@@ -115,9 +115,10 @@ scope_of components sources name = flat_map (λ k. flat_map (own_functions sourc
 abbrev pub starts_with : List ℕ → List ℕ → Bool
 starts_with front bytes = is_some (strip front bytes)
 
-abbrev pub is_in_source : Source → Bool
-is_in_source s = not s.text.inline && starts_with (codes "source/") s.text.path
+-- a file under `source`
+abbrev pub is_in_source : SourceFunctions → Bool
+is_in_source s = not s.inline && starts_with (codes "source/") s.path
 
 -- the functions of all files under `source`
 abbrev pub source_functions : List Source → List Function
-source_functions sources = flat_map functions_in (filter is_in_source sources)
+source_functions sources = flat_map functions_in (filter (λ s. is_in_source s.text) sources)

@@ -6,8 +6,14 @@
 //! Source: SceneGraph XML Guide, "component", "interface", "script" and "children".
 #![tactic(auto)]
 
+mod answer;
+mod children;
 mod component;
+mod names;
 mod source;
 
+pub use answer::{TablesAnswer, fault_on, refusal};
+pub use children::push_children;
 pub use component::PathedComponent;
+pub use names::NameTable;
 pub use source::{DeclaredFunction, SourceFunctions};
