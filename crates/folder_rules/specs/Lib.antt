@@ -1,0 +1,10 @@
+pub mod Names
+pub mod Kinds
+pub mod Children
+pub mod Scripts
+pub mod Faults
+pub mod Answers
+pub mod KindFaults
+pub mod FieldFaults
+pub mod ScriptFaults
+pub mod FirstFault
