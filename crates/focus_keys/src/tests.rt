@@ -81,7 +81,7 @@ fn row(rt: &impl Abort, alloc: Global, count: u32) -> Result<Nodes, NoMemory> {
     let plans = plans(alloc)?;
     let mut nodes = Nodes::new(alloc, &plans)?;
     for _ in 1..count {
-        if nodes.make(&plans, 0, 0).is_err() {
+        if nodes.add_node(&plans, 0, 0).is_err() {
             return Err(NoMemory);
         }
     }

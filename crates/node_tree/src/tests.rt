@@ -62,7 +62,7 @@ fn labels(alloc: Global, count: u32) -> Result<Nodes, NoMemory> {
     let plans = plans(alloc)?;
     let mut nodes = Nodes::new(alloc, &plans)?;
     for _ in 0..count {
-        match nodes.make(&plans, 1, 3) {
+        match nodes.add_node(&plans, 1, 3) {
             Ok(_) => {}
             Err(MakeFault::TooManyNodes | MakeFault::NoMemory) => return Err(NoMemory),
         }
@@ -232,53 +232,5 @@ fn children_take_their_places(rt: HostRuntime) -> Result<(), Fail> {
     assert_eq!(rt; nodes.parent(3), None);
     assert_eq!(rt; nodes.owner(3), 3);
     assert_eq!(rt; nodes.kind(3).as_str(), "Label");
-    Ok(())
-}
-
-fn check_owners(rt: &impl Abort, nodes: &Nodes, wanted: [(u32, u32); 7]) {
-    for (node, owner) in wanted {
-        check_node(rt, nodes, node);
-        assert_eq!(rt; nodes.owner(node), owner);
-    }
-}
-
-fn give(rt: &impl Abort, nodes: &mut Nodes, node: u32) -> Result<(), NoMemory> {
-    check_node(rt, nodes, node);
-    nodes.give_to_render(node)
-}
-
-#[test]
-fn gifts_go_along_parents_children_and_fields(rt: HostRuntime) -> Result<(), Fail> {
-    let mut nodes = labels(rt.alloc(), 6)?;
-    assert!(rt; append(&rt, &mut nodes, 2, 3)?);
-    assert!(rt; append(&rt, &mut nodes, 2, 4)?);
-    assert!(rt; add(&rt, &mut nodes, 4, "next", FieldType::Node, false)?);
-    assert!(rt; add(&rt, &mut nodes, 6, "next", FieldType::Node, false)?);
-    set(&rt, &mut nodes, 4, b"next", &Portable::Node(5))?;
-    set(&rt, &mut nodes, 6, b"next", &Portable::Node(3))?;
-    check_owners(
-        &rt,
-        &nodes,
-        [(1, 0), (2, 3), (3, 3), (4, 3), (5, 3), (6, 3), (7, 3)],
-    );
-    give(&rt, &mut nodes, 3)?;
-    check_owners(
-        &rt,
-        &nodes,
-        [(1, 0), (2, 0), (3, 0), (4, 0), (5, 0), (6, 3), (7, 3)],
-    );
-    give(&rt, &mut nodes, 6)?;
-    check_owners(
-        &rt,
-        &nodes,
-        [(1, 0), (2, 0), (3, 0), (4, 0), (5, 0), (6, 0), (7, 3)],
-    );
-    set(&rt, &mut nodes, 4, b"next", &Portable::Node(7))?;
-    give(&rt, &mut nodes, 2)?;
-    check_owners(
-        &rt,
-        &nodes,
-        [(1, 0), (2, 0), (3, 0), (4, 0), (5, 0), (6, 0), (7, 0)],
-    );
     Ok(())
 }
