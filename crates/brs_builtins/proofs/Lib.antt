@@ -1,0 +1,5 @@
+pub mod OperandLaws
+pub mod DeliverLaws
+pub mod MessageLaws
+pub mod CreateLaws
+pub mod KeyListLaws
