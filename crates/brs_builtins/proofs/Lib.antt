@@ -3,3 +3,5 @@ pub mod DeliverLaws
 pub mod MessageLaws
 pub mod CreateLaws
 pub mod KeyListLaws
+pub mod EntryCounts
+pub mod JoinLaws

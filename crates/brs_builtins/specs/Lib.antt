@@ -4,5 +4,6 @@ pub mod Delivers
 pub mod Told
 pub mod MessageAnswers
 pub mod KeyLists
+pub mod Joins
 pub mod Table
 pub mod Names

@@ -52,6 +52,7 @@ map_words =
     ∷ (codes "delete", o.MapMethod p.Delete)
     ∷ (codes "count", o.MapMethod p.Count)
     ∷ (codes "keys", o.Keys)
+    ∷ (codes "append", o.AppendEntries)
     ∷ []
 
 abbrev pub message_words : List (List ℕ × Operation)

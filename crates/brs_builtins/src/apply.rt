@@ -3,6 +3,7 @@ ghost use Rattle.std.specs.Prelude.{◌+◌, ◌^◌, ◌≤◌, IfOk};
 ghost use Rattle.object_operations.specs.Applies.{Applies};
 ghost use Rattle.brs_builtins.specs.Table.{applied};
 
+use crate::append::call_append;
 use crate::create::create_object;
 use crate::keys::call_keys;
 use crate::messages::call_message_method;
@@ -44,6 +45,7 @@ pub fn apply(
         Operation::ArrayMethod(method) => call_array_method(heap, method, arguments),
         Operation::MapMethod(method) => call_map_method(alloc, heap, method, arguments),
         Operation::Keys => call_keys(alloc, heap, arguments),
+        Operation::AppendEntries => call_append(alloc, heap, arguments),
         Operation::MessageMethod(method) => call_message_method(alloc, heap, method, arguments),
     }
 }

@@ -2,6 +2,7 @@
 //! indexes, by one table. What touches a node, a port or the screen is no operation.
 #![tactic(auto)]
 
+mod append;
 mod apply;
 mod create;
 mod keys;

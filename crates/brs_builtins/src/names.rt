@@ -37,7 +37,7 @@ const ARRAY_METHODS: [(&[u8], Operation); 9] = [
     (b"append", Operation::ArrayMethod(ArrayMethod::Append)),
 ];
 
-const MAP_METHODS: [(&[u8], Operation); 7] = [
+const MAP_METHODS: [(&[u8], Operation); 8] = [
     (b"addreplace", Operation::MapMethod(MapMethod::AddReplace)),
     (b"clear", Operation::MapMethod(MapMethod::Clear)),
     (b"lookup", Operation::MapMethod(MapMethod::Lookup)),
@@ -45,6 +45,7 @@ const MAP_METHODS: [(&[u8], Operation); 7] = [
     (b"delete", Operation::MapMethod(MapMethod::Delete)),
     (b"count", Operation::MapMethod(MapMethod::Count)),
     (b"keys", Operation::Keys),
+    (b"append", Operation::AppendEntries),
 ];
 
 const MESSAGE_METHODS: [(&[u8], Operation); 3] = [

@@ -34,6 +34,8 @@ pub enum Operation {
     MapMethod(MapMethod),
     /// `keys()` of an associative array: its keys in ascending order.
     Keys,
+    /// `append(aa)` of an associative array: it gets the entries of another one.
+    AppendEntries,
     /// A method of messages that reads what the message tells.
     MessageMethod(MessageMethod),
 }

@@ -104,17 +104,22 @@ fn shown_plain(alloc: Global, plain: Plain) -> Result<String, Fail> {
     })
 }
 
-/// A value as a row writes it, and an error by its name.
+/// A value as a row writes it, and an object by its shape.
+fn shown_value(alloc: Global, heap: &Heap, v: &Value) -> Result<String, Fail> {
+    match heap.plain(v) {
+        Some(plain) => shown_plain(alloc, plain),
+        None => match heap.text(v) {
+            Some(text) => Ok(format!(in alloc; "'{}", text.as_str())?),
+            None => Ok(format!(in alloc; "{:?}", heap.shape(v))?),
+        },
+    }
+}
+
+/// The value that was answered, and an error by its name.
 fn shown(alloc: Global, heap: &Heap, answer: &Applied) -> Result<String, Fail> {
     match answer {
         Applied::Raised(error) => Ok(format!(in alloc; "{error:?}")?),
-        Applied::Value(v) => match heap.plain(v) {
-            Some(plain) => shown_plain(alloc, plain),
-            None => match heap.text(v) {
-                Some(text) => Ok(format!(in alloc; "'{}", text.as_str())?),
-                None => Ok(format!(in alloc; "{:?}", heap.shape(v))?),
-            },
-        },
+        Applied::Value(v) => shown_value(alloc, heap, v),
     }
 }
 
@@ -287,6 +292,12 @@ fn objects_are_told_from_other_values(rt: HostRuntime) -> Result<(), Fail> {
     check(
         &rt,
         alloc,
+        Operation::AppendEntries,
+        &["{}|{} = Invalid", "{}|[] = E2", "{} = E6", "[]|{} = E4"],
+    )?;
+    check(
+        &rt,
+        alloc,
         Operation::MessageMethod(MessageMethod::Field),
         &["{} = E4", "invalid = E7", " = E6"],
     )
@@ -373,5 +384,77 @@ fn messages_tell_their_field_and_their_node(rt: HostRuntime) -> Result<(), Fail>
         &arguments,
     )?;
     assert_eq!(rt; node.as_str(), "node 7");
+    Ok(())
+}
+
+/// Puts a number at a key.
+fn put(alloc: Global, heap: &mut Heap, pairs: &Value, key: &str, n: i32) -> Result<(), Fail>
+    requires { 2 ^ 20 < heap.old.shares }
+    ensures { heap.old.shares ≤ heap.new.shares + 2 ^ 20 + 1 }
+{
+    let receiver = heap.share(pairs);
+    let k = heap.make_text(text_of(alloc, key)?)?;
+    let arguments = [receiver, k, Value::plain(Plain::Small(n))];
+    apply(
+        alloc,
+        heap,
+        Operation::MapMethod(MapMethod::AddReplace),
+        &arguments,
+    )?;
+    Ok(())
+}
+
+/// The keys of an associative array and their values, or the error of the call.
+fn entries(alloc: Global, heap: &mut Heap, pairs: &Value) -> Result<String, Fail>
+    requires { 2 ^ 20 < heap.old.shares }
+    ensures { heap.old.shares ≤ heap.new.shares + 2 ^ 20 + 1 }
+{
+    let arguments = [heap.share(pairs)];
+    match apply(alloc, heap, Operation::Keys, &arguments)? {
+        Applied::Raised(error) => Ok(format!(in alloc; "{error:?}")?),
+        Applied::Value(list) => items(alloc, heap, pairs, &list),
+    }
+}
+
+fn items(alloc: Global, heap: &Heap, pairs: &Value, list: &Value) -> Result<String, Fail> {
+    let mut text = String::new(alloc);
+    for at in 0..heap.length(list) {
+        if let Some(key) = heap.get(list, at) {
+            let name = shown_value(alloc, heap, key)?;
+            text.push_str(name.as_str())?;
+        }
+        if let Some(v) = heap.child(pairs, at) {
+            let n = shown_value(alloc, heap, v)?;
+            text.push_str(n.as_str())?;
+        }
+    }
+    Ok(text)
+}
+
+#[test]
+fn keys_ascend_and_entries_are_appended(rt: HostRuntime) -> Result<(), Fail> {
+    let alloc = rt.alloc();
+    let mut heap = Heap::new(alloc);
+    let pairs = heap.make_pairs()?;
+    put(alloc, &mut heap, &pairs, "b", 2)?;
+    put(alloc, &mut heap, &pairs, "C", 3)?;
+    put(alloc, &mut heap, &pairs, "a", 1)?;
+    let three = entries(alloc, &mut heap, &pairs)?;
+    assert_eq!(rt; three.as_str(), "'a1'b2'c3");
+    let other = heap.make_pairs()?;
+    put(alloc, &mut heap, &other, "c", 7)?;
+    put(alloc, &mut heap, &other, "d", 8)?;
+    let receiver = heap.share(&pairs);
+    let arguments = [receiver, other];
+    let appended = told(alloc, &mut heap, Operation::AppendEntries, &arguments)?;
+    assert_eq!(rt; appended.as_str(), "Invalid");
+    let four = entries(alloc, &mut heap, &pairs)?;
+    assert_eq!(rt; four.as_str(), "'a1'b2'c7'd8");
+    let receiver = heap.share(&pairs);
+    let itself = [receiver, heap.share(&pairs)];
+    let again = told(alloc, &mut heap, Operation::AppendEntries, &itself)?;
+    assert_eq!(rt; again.as_str(), "Invalid");
+    let same = entries(alloc, &mut heap, &pairs)?;
+    assert_eq!(rt; same.as_str(), "'a1'b2'c7'd8");
     Ok(())
 }
