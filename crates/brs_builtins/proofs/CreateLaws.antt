@@ -1,5 +1,5 @@
 -- Objects that are made by name.
-use Rattle.std.proofs.Common.{◌≡◌, ℕ, ◌+◌, ◌≤◌, List, [], ◌∷◌, map, Option, Some, None, refl, sym, ap, ◌∙◌, subst, arith, true, false, cond}
+use Rattle.std.proofs.Common.{◌≡◌, ℕ, ◌+◌, ◌≤◌, List, [], ◌∷◌, ◌++◌, map, length, Option, Some, None, refl, sym, ap, ◌∙◌, subst, arith, true, false, cond}
 use Rattle.std.specs.Prelude.{option_map, codes}
 use Rattle.std.specs.Str.{bytes_eq}
 use Rattle.chan_values.specs.Folded.{folded}
@@ -10,7 +10,7 @@ use Rattle.heap_meaning.specs.Store.{ArrayObject, MapObject, Store}
 use Rattle.heap_meaning.specs.Stands.{Naming, Outside, meaning, Stands}
 use Rattle.heap_meaning.specs.Heap.{Heap, MakesObject, content_at}
 use Rattle.heap_meaning.specs.Reading.{text_in}
-use Rattle.object_operations.specs.Answer.{Answer, text_of}
+use Rattle.object_operations.specs.Answer.{Answer, Gives, Raises, invalid, text_of}
 use Rattle.object_operations.specs.Types.{map_made, made, create_row}
 use Rattle.object_operations.specs.Applies.{Answers, AreOut, Applies}
 use Rattle.object_operations.specs.declared.applied.Applied.{Applied}
@@ -20,18 +20,21 @@ use Rattle.object_operations.proofs.Entries.{text_seen}
 use Rattle.object_operations.proofs.Answering.{gave_plain, gave_object}
 
 -- what a name makes, by the two tests of it
-first_made : (name : List ℕ) (ws : List StoreValue) (store : Store) → bytes_eq name (codes "roarray") ≡ true → made name ws store ≡ made (codes "roarray") [] store
-first_made name ws store e = ap (λ b. cond b (made (codes "roarray") [] store) (cond (bytes_eq name (codes "roassociativearray")) (map_made ws store) (made [] ws store))) e
+abbrev new_array : Store → Answer
+new_array store = Gives (Reference (length store)) (store ++ ArrayObject [] ∷ [])
+
+first_made : (name : List ℕ) (ws : List StoreValue) (store : Store) → bytes_eq name (codes "roarray") ≡ true → made name ws store ≡ new_array store
+first_made name ws store e = ap (λ b. cond b (new_array store) (cond (bytes_eq name (codes "roassociativearray")) (map_made ws store) (Gives invalid store))) e
 
 second_made : (name : List ℕ) (ws : List StoreValue) (store : Store) → bytes_eq name (codes "roarray") ≡ false → bytes_eq name (codes "roassociativearray") ≡ true → made name ws store ≡ map_made ws store
 second_made name ws store e f =
-    ap (λ b. cond b (made (codes "roarray") [] store) (cond (bytes_eq name (codes "roassociativearray")) (map_made ws store) (made [] ws store))) e
-    ∙ ap (λ b. cond b (map_made ws store) (made [] ws store)) f
+    ap (λ b. cond b (new_array store) (cond (bytes_eq name (codes "roassociativearray")) (map_made ws store) (Gives invalid store))) e
+    ∙ ap (λ b. cond b (map_made ws store) (Gives invalid store)) f
 
-third_made : (name : List ℕ) (ws : List StoreValue) (store : Store) → bytes_eq name (codes "roarray") ≡ false → bytes_eq name (codes "roassociativearray") ≡ false → made name ws store ≡ made [] ws store
+third_made : (name : List ℕ) (ws : List StoreValue) (store : Store) → bytes_eq name (codes "roarray") ≡ false → bytes_eq name (codes "roassociativearray") ≡ false → made name ws store ≡ Gives invalid store
 third_made name ws store e f =
-    ap (λ b. cond b (made (codes "roarray") [] store) (cond (bytes_eq name (codes "roassociativearray")) (map_made ws store) (made [] ws store))) e
-    ∙ ap (λ b. cond b (map_made ws store) (made [] ws store)) f
+    ap (λ b. cond b (new_array store) (cond (bytes_eq name (codes "roassociativearray")) (map_made ws store) (Gives invalid store))) e
+    ∙ ap (λ b. cond b (map_made ws store) (Gives invalid store)) f
 
 pub makes_array : (h h1 : Heap) (name : List ℕ) (arguments : List Value) (v : Value) → bytes_eq name (codes "roarray") ≡ true → MakesObject h h1 v (ArrayObject []) → Applies h h1 arguments (a.Value v) (made name)
 makes_array h h1 name arguments v e m = record {
@@ -54,10 +57,10 @@ pub makes_invalid : (h : Heap) (name : List ℕ) (arguments : List Value) (v : V
 makes_invalid h name arguments v is e f = record {
   answers = λ naming store before s o.
       subst (Answers naming h before (a.Value v)) (sym (third_made name (map (meaning naming) arguments) store e f))
-      (subst (λ u. Answers naming h before (a.Value u) (made [] (map (meaning naming) arguments) store)) (sym is) (gave_plain naming h store before Invalid s));
+      (subst (λ u. Answers naming h before (a.Value u) (Gives invalid store)) (sym is) (gave_plain naming h store before Invalid s));
 }
 
-create_other : (w : StoreValue) (ws : List StoreValue) (store : Store) → text_of w ≡ None → create_row (w ∷ ws) store ≡ create_row (Scalar Invalid ∷ []) store
+create_other : (w : StoreValue) (ws : List StoreValue) (store : Store) → text_of w ≡ None → create_row (w ∷ ws) store ≡ Raises E2
 create_other (Scalar plain) ws store e = refl
 create_other (Words bytes) ws store e = absurd cc
 create_other (Reference n) ws store e = refl

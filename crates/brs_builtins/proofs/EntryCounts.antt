@@ -46,17 +46,16 @@ joined_own es k l = go (slice_get es k) refl
     go (Some x) e = with_here es k x.key x.value x.value l e ∙ set_same es k x e
 
 -- how many of the further entries have a key that is there
-present : List (Entry StoreValue) → List (Entry StoreValue) → ℕ
+abbrev present : List (Entry StoreValue) → List (Entry StoreValue) → ℕ
 present entries [] = 0
 present entries (e ∷ more) = cond (is_some (value_at_key entries e.key)) 1 0 + present entries more
 
 -- how many of them have this key
-named : List ℕ → List (Entry StoreValue) → ℕ
+abbrev named : List ℕ → List (Entry StoreValue) → ℕ
 named key [] = 0
 named key (e ∷ more) = cond (bytes_eq key e.key) 1 0 + named key more
 
 present_or_new : (entries more : List (Entry StoreValue)) → length more ≡ present entries more + new_keys entries more
-unfolding present
 present_or_new entries [] = refl
 present_or_new entries (e ∷ more) = go (is_some (value_at_key entries e.key)) (present_or_new entries more)
   where
@@ -65,12 +64,10 @@ present_or_new entries (e ∷ more) = go (is_some (value_at_key entries e.key)) 
     go false r = omega arith
 
 present_none : (more : List (Entry StoreValue)) → present [] more ≡ 0
-unfolding present
 present_none [] = refl
 present_none (e ∷ more) = present_none more
 
 present_cons : (x : Entry StoreValue) (es more : List (Entry StoreValue)) → present (x ∷ es) more ≤ named x.key more + present es more
-unfolding present named
 present_cons x es [] = omega arith
 present_cons x es (e ∷ more) = go (bytes_eq x.key e.key) (present_cons x es more)
   where
@@ -83,18 +80,20 @@ differ : (k l : List ℕ) → order k l ≡ Less → bytes_eq k l ≡ false
 differ k l e = sym (is_eq-slice_cmp k l) ∙ ap is_eq e
 
 named_none : (key : List ℕ) (more : List (Entry StoreValue)) → AllByRecursion (λ y. order key y ≡ Less) (keys_of more) → named key more ≡ 0
-unfolding named
 named_none key [] a = refl
 named_none key (e ∷ more) a = let d = differ key e.key a.0 in let r = named_none key more a.1 in ap (λ b. cond b 1 0 + named key more) d ∙ r
 
 named_once : (key : List ℕ) (more : List (Entry StoreValue)) → IsStrictlySortedBy (slice_cmp nat_cmp) (keys_of more) → named key more ≤ 1
-unfolding named IsStrictlySortedBy
+unfolding IsStrictlySortedBy
 named_once key [] s = omega arith
-named_once key (e ∷ more) s = go (bytes_eq key e.key) refl
+named_once key (e ∷ more) s = go (bytes_eq key e.key) refl s.0 (named_once key more s.1)
   where
-    go : (b : Bool) → bytes_eq key e.key ≡ b → cond b 1 0 + named key more ≤ 1
-    go true q = let same : key ≡ e.key = (bytes_eq-Decides key e.key).0 q in let r = named_none key more (subst (λ k. AllByRecursion (λ y. order k y ≡ Less) (keys_of more)) (sym same) s.0) in omega arith
-    go false q = let r = named_once key more s.1 in omega arith
+    go : (b : Bool) → bytes_eq key e.key ≡ b → AllByRecursion (λ y. order e.key y ≡ Less) (keys_of more) → named key more ≤ 1 → cond b 1 0 + named key more ≤ 1
+    go true q later r =
+        let same : key ≡ e.key = (bytes_eq-Decides key e.key).0 q in
+        let z = named_none key more (subst (λ k. AllByRecursion (λ y. order k y ≡ Less) (keys_of more)) (sym same) later) in
+        omega arith
+    go false q later r = omega arith
 
 present_within : (entries more : List (Entry StoreValue)) → IsStrictlySortedBy (slice_cmp nat_cmp) (keys_of more) → present entries more ≤ length entries
 present_within [] more s = let e = present_none more in omega arith

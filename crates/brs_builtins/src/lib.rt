@@ -3,7 +3,6 @@
 #![tactic(auto)]
 
 mod append;
-mod apply;
 mod create;
 mod keys;
 mod messages;
@@ -12,12 +11,13 @@ mod operands;
 mod operation;
 mod outcomes;
 mod receiver;
+mod table;
 
-pub use apply::apply;
 pub use names::{function_named, method_named};
 pub use object_operations::{Applied, Receiver, receiver_of};
 pub use operands::operand_at;
 pub use operation::Operation;
+pub use table::apply;
 
 #[cfg(test)]
 mod tests;
