@@ -1,7 +1,2 @@
 pub mod OperandLaws
 pub mod DeliverLaws
-pub mod MessageLaws
-pub mod CreateLaws
-pub mod KeyListLaws
-pub mod EntryCounts
-pub mod JoinLaws

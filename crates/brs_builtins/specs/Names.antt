@@ -5,7 +5,6 @@ use Rattle.plain_operations.specs.declared.function.PlainFunction.TheVariants as
 use Rattle.plain_operations.specs.declared.method.PlainMethod.TheVariants as m
 use Rattle.object_operations.specs.declared.array_method.ArrayMethod.TheVariants as a
 use Rattle.object_operations.specs.declared.map_method.MapMethod.TheVariants as p
-use Rattle.object_operations.specs.declared.message_method.MessageMethod.TheVariants as e
 use Rattle.object_operations.specs.declared.receiver.Receiver.{Receiver}
 use Rattle.object_operations.specs.declared.receiver.Receiver.TheVariants as r
 use Rattle.brs_builtins.specs.declared.operation.Operation.{Operation}
@@ -27,7 +26,6 @@ function_words =
     ∷ (codes "stri", o.Function f.StrI)
     ∷ (codes "strtoi", o.Function f.StrToI)
     ∷ (codes "type", o.TypeName)
-    ∷ (codes "createobject", o.CreateObject)
     ∷ []
 
 abbrev pub array_words : List (List ℕ × Operation)
@@ -51,15 +49,6 @@ map_words =
     ∷ (codes "doesexist", o.MapMethod p.DoesExist)
     ∷ (codes "delete", o.MapMethod p.Delete)
     ∷ (codes "count", o.MapMethod p.Count)
-    ∷ (codes "keys", o.Keys)
-    ∷ (codes "append", o.AppendEntries)
-    ∷ []
-
-abbrev pub message_words : List (List ℕ × Operation)
-message_words =
-    (codes "getfield", o.MessageMethod e.Field)
-    ∷ (codes "getnode", o.MessageMethod e.Id)
-    ∷ (codes "getrosgnode", o.MessageMethod e.Node)
     ∷ []
 
 abbrev pub plain_words : List (List ℕ × Operation)
@@ -77,5 +66,5 @@ abbrev pub method_named : Receiver → List ℕ → Option Operation
 method_named r.Invalid name = None
 method_named r.Array name = beside array_words name
 method_named r.Pairs name = beside map_words name
-method_named r.Message name = beside message_words name
+method_named r.Message name = None
 method_named r.Other name = beside plain_words name

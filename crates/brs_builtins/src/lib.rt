@@ -2,15 +2,10 @@
 //! indexes, by one table. What touches a node, a port or the screen is no operation.
 #![tactic(auto)]
 
-mod append;
-mod create;
-mod keys;
-mod messages;
 mod names;
 mod operands;
 mod operation;
 mod outcomes;
-mod receiver;
 mod table;
 
 pub use names::{function_named, method_named};

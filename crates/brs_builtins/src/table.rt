@@ -3,10 +3,6 @@ ghost use Rattle.std.specs.Prelude.{◌+◌, ◌^◌, ◌≤◌, IfOk};
 ghost use Rattle.object_operations.specs.Applies.{Applies};
 ghost use Rattle.brs_builtins.specs.Table.{applied};
 
-use crate::append::call_append;
-use crate::create::create_object;
-use crate::keys::call_keys;
-use crate::messages::call_message_method;
 use crate::operation::Operation;
 use crate::outcomes::{apply_function, apply_operator, apply_plain_method, apply_unary};
 use brs_heap::{Heap, Value};
@@ -40,12 +36,8 @@ pub fn apply(
         Operation::WriteIndex => write_index(alloc, heap, arguments),
         Operation::Function(function) => apply_function(alloc, heap, function, arguments),
         Operation::TypeName => call_type(alloc, heap, arguments),
-        Operation::CreateObject => create_object(alloc, heap, arguments),
         Operation::PlainMethod(method) => apply_plain_method(alloc, heap, method, arguments),
         Operation::ArrayMethod(method) => call_array_method(heap, method, arguments),
         Operation::MapMethod(method) => call_map_method(alloc, heap, method, arguments),
-        Operation::Keys => call_keys(alloc, heap, arguments),
-        Operation::AppendEntries => call_append(alloc, heap, arguments),
-        Operation::MessageMethod(method) => call_message_method(alloc, heap, method, arguments),
     }
 }

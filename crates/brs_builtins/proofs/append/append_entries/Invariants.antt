@@ -1,6 +1,0 @@
-use Rattle.std.proofs.Common.{◌+◌, ◌≤◌, take}
-use Rattle.brs_builtins.specs.Joins.{Joins}
-use Rattle.brs_builtins.proofs.append.append_entries.Given as goal
-
-abbrev pub invariant-loop-at : goal.invariant-loop-at
-invariant-loop-at l = record { joins : Joins l.fn.heap l.heap l.pairs l.from (take l.at); shares : l.fn.heap.shares ≤ l.heap.shares + l.at }
