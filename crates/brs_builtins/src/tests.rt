@@ -56,7 +56,7 @@ fn answer_for_text(alloc: Global, operation: Operation, t: &str, other: Option<V
 fn operations_answer_by_the_table(rt: HostRuntime) {
     let alloc = rt.alloc();
     let subtract = Operation::Operator(Operator::Subtract);
-    assert_eq!(rt; answer(alloc, subtract, &[small(5), small(7)]), -2);
+    assert_eq!(rt; answer(alloc, subtract, &[small(5), small(8)]), -3);
     assert_eq!(rt; answer(alloc, subtract, &[small(5)]), 406);
     assert_eq!(rt; answer_for_text(alloc, subtract, "5", Some(small(7))), 402);
     let not = Operation::UnaryOperator(UnaryOperator::Not);
