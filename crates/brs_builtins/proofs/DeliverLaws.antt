@@ -1,19 +1,18 @@
 -- From what is given of operands to what an operation answers.
-use Rattle.std.proofs.Common.{◌≡◌, ℕ, List, map, refl, sym, ap, ◌∙◌, subst}
+use Rattle.std.proofs.Common.{◌≡◌, ℕ, List, refl, sym, ap, ◌∙◌, subst}
 use Rattle.chan_values.specs.declared.error_code.ErrorCode.{ErrorCode}
 use Rattle.heap_meaning.specs.declared.plain.Plain.{Plain}
-use Rattle.heap_meaning.specs.Values.{Value, Direct, StoreValue, Scalar, Words}
+use Rattle.heap_meaning.specs.Values.{Value, Direct, Scalar, Words}
 use Rattle.heap_meaning.specs.Store.{Store}
-use Rattle.heap_meaning.specs.Stands.{meaning}
 use Rattle.heap_meaning.specs.Heap.{Heap, MakesText}
 use Rattle.plain_operations.specs.Operand.{Operand}
 use Rattle.plain_operations.specs.Outcome.{Outcome}
-use Rattle.object_operations.specs.Answer.{Answer, Gives, Raises}
+use Rattle.object_operations.specs.Answer.{Gives, Raises}
 use Rattle.object_operations.specs.Applies.{Answers, Applies}
 use Rattle.object_operations.specs.declared.applied.Applied.{Applied}
 use Rattle.object_operations.specs.declared.applied.Applied.TheVariants as a
 use Rattle.object_operations.proofs.Answering.{gave_plain, gave_text}
-use Rattle.brs_builtins.specs.Operands.{operand, operands_at, answer_of}
+use Rattle.brs_builtins.specs.Operands.{operands_at, answer_of}
 use Rattle.brs_builtins.specs.Outcomes.{on_operands}
 use Rattle.brs_builtins.specs.Delivers.{Delivers}
 use Rattle.brs_builtins.proofs.OperandLaws.{operands_seen}

@@ -1,5 +1,5 @@
 -- What the operands of a heap's values are, one by one and together.
-use Rattle.std.proofs.Common.{◌≡◌, ◌≢◌, ℕ, ◌+◌, ◌<◌, ◌≤◌, List, [], ◌∷◌, map, length, Option, Some, None, refl, sym, ap, ◌∙◌, subst, arith}
+use Rattle.std.proofs.Common.{◌≡◌, ◌≢◌, ℕ, List, [], ◌∷◌, map, length, Option, refl, sym, ap, ◌∙◌, arith}
 use Rattle.heap_meaning.specs.Values.{Value, StoreValue}
 use Rattle.heap_meaning.specs.Store.{Store}
 use Rattle.heap_meaning.specs.Cells.{Content}
