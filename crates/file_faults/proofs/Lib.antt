@@ -1,0 +1,4 @@
+mod Sources
+mod ScriptLines
+mod Scripts
+mod Components

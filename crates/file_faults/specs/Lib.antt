@@ -1,0 +1,3 @@
+pub mod SourceFaults
+pub mod ComponentFaults
+pub mod Answers

@@ -1,0 +1,107 @@
+//! What no clause says: with ample memory a source file and a component file are read, and so are their faults.
+use crate::{
+    ComponentFault, ComponentFileAnswer, SourceAnswer, SourceFault, read_component_file,
+    read_source,
+};
+use brs_parser::SyntaxFault;
+use brs_tokens::{LexFault, LexKind};
+use component_files::ComponentSyntax;
+use static_faults::{StaticFault, StaticKind};
+use std::alloc::Global;
+use std::test::Fail;
+
+/// What a source file is: good with so many functions, or of a first fault; nothing where it isn't read.
+fn read(alloc: Global, src: &str) -> Option<Result<usize, SourceFault>> {
+    if src.len() >= 1000 {
+        return None;
+    }
+    match read_source(alloc, src.as_bytes(), 1) {
+        Ok(file) => Some(Ok(file.tree().functions.len())),
+        Err(SourceAnswer::Fault(fault)) => Some(Err(fault)),
+        Err(SourceAnswer::NoMemory) => None,
+    }
+}
+
+/// The same of a component file, with the number of its inline scripts.
+fn read_component(alloc: Global, src: &str) -> Option<Result<usize, ComponentFault>> {
+    if src.len() >= 1000 {
+        return None;
+    }
+    match read_component_file(alloc, src.as_bytes()) {
+        Ok(component) => Some(Ok(component.scripts.len())),
+        Err(ComponentFileAnswer::Fault(fault)) => Some(Err(fault)),
+        Err(ComponentFileAnswer::NoMemory) => None,
+    }
+}
+
+fn lexical(kind: LexKind, line: u32, column: u32) -> SourceFault {
+    SourceFault::Lexical(LexFault { kind, line, column })
+}
+
+fn syntax(token: u32, line: u32, column: u32) -> SourceFault {
+    SourceFault::Syntax(SyntaxFault {
+        token,
+        line,
+        column,
+    })
+}
+
+fn of_static(kind: StaticKind, line: u32, column: u32) -> SourceFault {
+    SourceFault::Static(StaticFault { kind, line, column })
+}
+
+#[test]
+fn lexical_faults_come_before_syntax_and_syntax_before_static_faults(
+    rt: HostRuntime,
+) -> Result<(), Fail> {
+    for (src, want) in [
+        ("", Ok(0)),
+        ("sub main()\nend sub\nsub f()\nend sub\n", Ok(2)),
+        (
+            "sub main()\nx = 4/2\nend sub\n",
+            Err(lexical(LexKind::Slash, 2, 6)),
+        ),
+        ("sub main()\na.b\nend sub\n", Err(syntax(7, 2, 4))),
+        (
+            "sub main()\nexit for\nend sub\n",
+            Err(of_static(StaticKind::ExitOutsideLoop, 2, 1)),
+        ),
+        (
+            "sub main()\nexit for\na.b\n/\n",
+            Err(lexical(LexKind::Slash, 4, 1)),
+        ),
+        ("sub main()\nexit for\na.b\n", Err(syntax(10, 3, 4))),
+    ] {
+        assert_eq!(rt; read(rt.alloc(), src), Some(want));
+    }
+    Ok(())
+}
+
+#[test]
+fn a_component_file_is_looked_at_before_its_inline_scripts(rt: HostRuntime) -> Result<(), Fail> {
+    for (src, want) in [
+        (
+            "<component name='a'><script uri='b.brs'/></component>",
+            Ok(0),
+        ),
+        (
+            "<component name='a'><script><![CDATA[sub init()\nend sub\n]]></script></component>",
+            Ok(1),
+        ),
+        (
+            "<component name='a'>\n<script><![CDATA[sub init()\na.b\nend sub]]></script></component>",
+            Err(ComponentFault::Script(syntax(7, 3, 4))),
+        ),
+        (
+            "<component name='a'>\n<script><![CDATA[/]]></script><script><![CDATA[*]]></script></component>",
+            Err(ComponentFault::Script(lexical(LexKind::Slash, 2, 1))),
+        ),
+        (
+            "<component name='a'>\n<script><![CDATA[/]]></script>\n<b/></component>",
+            Err(ComponentFault::Element(ComponentSyntax { line: 3 })),
+        ),
+    ] {
+        assert_eq!(rt; read_component(rt.alloc(), src), Some(want));
+    }
+    Ok(())
+}
