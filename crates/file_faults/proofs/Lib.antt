@@ -1,4 +1,1 @@
 mod Sources
-mod ScriptLines
-mod Scripts
-mod Components

@@ -1,6 +1,6 @@
 -- A source file has a tree without a static fault or a first fault, one of the two and only one.
 use Rattle.std.proofs.Common.{◌≡◌, ℕ, ◌⊎◌, inl, inr, List, [], Result, Ok, Err, Option, Some, None, refl, sym, ap, ◌∙◌, subst}
-use Rattle.std.specs.Prelude.{◌↔◌, IsNone}
+use Rattle.std.specs.Prelude.{◌↔◌, IsNone, IfOk}
 use Rattle.brs_tokens.specs.Cuts as t
 use Rattle.brs_tokens.specs.Cuts.{AreTokens}
 use Rattle.brs_tokens.specs.Spelling.{spelling}
@@ -17,6 +17,9 @@ use Rattle.static_faults.specs.First.{first_by_place}
 use Rattle.static_faults.specs.declared.fault.StaticFault.{StaticFault}
 use Rattle.static_faults.proofs.Files.{none_is}
 use Rattle.file_faults.specs.SourceFaults.{IsGoodSource, HasSyntaxFault, HasStaticFault, IsSourceFault}
+use Rattle.file_faults.specs.Answers.{IsRead, IsRefused}
+use Rattle.file_faults.specs.declared.source.SourceAnswer.{SourceAnswer}
+use Rattle.file_faults.specs.declared.source.SourceAnswer.TheVariants as s
 use Rattle.file_faults.specs.declared.source.SourceFault.{SourceFault}
 use Rattle.file_faults.specs.declared.source.SourceFault.TheVariants.{Lexical, Syntax, Static}
 
@@ -118,3 +121,29 @@ module _ (tl : TokensLaw) (fl : FaultLaw) (gl : GrammarLaw) (src : List ℕ) (n 
 
   pub tree_or_fault : Either_
   tree_or_fault = of_spelling (spelling src n) refl
+
+-- ---- reading
+
+pub syntax_fault : (tokens : List Tok) (fault : SyntaxFault) (found : SourceFault) (src : List ℕ) (n : ℕ)
+    → g.IsFirstFault tokens fault.token × (fault ≡ fault_at tokens fault.token) → Syntax fault ≡ found → AreTokens src n tokens → IsSourceFault src n found
+syntax_fault tokens fault found src n first same are =
+    subst (IsSourceFault src n) same (record { tokens = tokens; spelled = are; first = first.0; place = first.1 })
+
+-- what is answered is right, so what is right is answered
+pub all_read : (src : List ℕ) (n : ℕ) (r : Result (List NamedFunction) SourceAnswer)
+    → ((a b : List NamedFunction) → IsGoodSource src n a → IsGoodSource src n b → a ≡ b)
+    → ((functions : List NamedFunction) (fault : SourceFault) → IsGoodSource src n functions → IsSourceFault src n fault → ⊥)
+    → IfOk r (IsGoodSource src n) → ((f : SourceFault) → r ≡ Err (s.Fault f) → IsSourceFault src n f)
+    → (functions : List NamedFunction) → IsGoodSource src n functions → IsRead functions r
+all_read src n (Ok found) one never tree fault functions good = one found functions tree good
+all_read src n (Err (s.Fault f)) one never tree fault functions good = never functions f good (fault f refl)
+all_read src n (Err s.NoMemory) one never tree fault functions good = tt
+
+pub all_refused : (src : List ℕ) (n : ℕ) (r : Result (List NamedFunction) SourceAnswer)
+    → ((a b : SourceFault) → IsSourceFault src n a → IsSourceFault src n b → a ≡ b)
+    → ((functions : List NamedFunction) (fault : SourceFault) → IsGoodSource src n functions → IsSourceFault src n fault → ⊥)
+    → IfOk r (IsGoodSource src n) → ((f : SourceFault) → r ≡ Err (s.Fault f) → IsSourceFault src n f)
+    → (f : SourceFault) → IsSourceFault src n f → IsRefused f r
+all_refused src n (Ok found) one never tree fault f is = never found f tree is
+all_refused src n (Err (s.Fault g)) one never tree fault f is = one g f (fault g refl) is
+all_refused src n (Err s.NoMemory) one never tree fault f is = tt

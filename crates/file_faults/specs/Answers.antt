@@ -1,10 +1,6 @@
--- What reading a source file, and reading a component file, answers.
+-- What reading a source file answers.
 use Rattle.std.specs.Prelude.{◌≡◌, List, Result, Ok, Err}
 use Rattle.brs_grammar.specs.declared.tree.NamedFunction.{NamedFunction}
-use Rattle.file_faults.specs.declared.component.CheckedComponent.{CheckedComponent}
-use Rattle.file_faults.specs.declared.component.ComponentFault.{ComponentFault}
-use Rattle.file_faults.specs.declared.component.ComponentFileAnswer.{ComponentFileAnswer}
-use Rattle.file_faults.specs.declared.component.ComponentFileAnswer.TheVariants as c
 use Rattle.file_faults.specs.declared.source.SourceAnswer.{SourceAnswer}
 use Rattle.file_faults.specs.declared.source.SourceAnswer.TheVariants.{Fault, NoMemory}
 use Rattle.file_faults.specs.declared.source.SourceFault.{SourceFault}
@@ -20,15 +16,3 @@ abbrev pub IsRefused : SourceFault → Result (List NamedFunction) SourceAnswer 
 IsRefused fault (Ok functions) = ⊥
 IsRefused fault (Err (Fault found)) = found ≡ fault
 IsRefused fault (Err NoMemory) = Unit {0}
-
--- this component with these trees, unless memory ran out
-abbrev pub IsChecked : CheckedComponent → Result CheckedComponent ComponentFileAnswer → Type 0
-IsChecked checked (Ok found) = found ≡ checked
-IsChecked checked (Err (c.Fault fault)) = ⊥
-IsChecked checked (Err c.NoMemory) = Unit {0}
-
--- this fault, unless memory ran out
-abbrev pub IsRefusedComponent : ComponentFault → Result CheckedComponent ComponentFileAnswer → Type 0
-IsRefusedComponent fault (Ok checked) = ⊥
-IsRefusedComponent fault (Err (c.Fault found)) = found ≡ fault
-IsRefusedComponent fault (Err c.NoMemory) = Unit {0}

@@ -1,3 +1,2 @@
 pub mod SourceFaults
-pub mod ComponentFaults
 pub mod Answers

@@ -93,6 +93,18 @@ fn faultless(file: ParsedFile) -> Result<ParsedFile, SourceAnswer>
     }
 }
 
+/// The tree of a source file, or its first fault.
+fn tree_of(alloc: Global, src: &[u8], first_line: u32) -> Result<ParsedFile, SourceAnswer>
+    requires line { 1 ≤ first_line }
+    requires fits { first_line + length src.now < 2 ^ 32 }
+    ensures tree { IfOk result (λ functions. IsGoodSource src.now first_line functions) }
+    ensures fault { (fault : Fault) → result ≡ Err (SourceAnswer.Fault fault) → IsSourceFault src.now first_line fault }
+{
+    let tokens = spelled(alloc, src, first_line)?;
+    let file = parsed(alloc, &tokens)?;
+    faultless(file)
+}
+
 /// The tree of a source file that has no fault, or its first fault. The first line has the number `first_line`, which is 1 for a file
 /// and more for an inline script.
 ///
@@ -112,7 +124,5 @@ pub fn read_source(alloc: Global, src: &[u8], first_line: u32) -> Result<ParsedF
     one_tree();
     one_fault();
     never_both();
-    let tokens = spelled(alloc, src, first_line)?;
-    let file = parsed(alloc, &tokens)?;
-    faultless(file)
+    tree_of(alloc, src, first_line)
 }

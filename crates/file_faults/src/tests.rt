@@ -1,11 +1,7 @@
-//! What no clause says: with ample memory a source file and a component file are read, and so are their faults.
-use crate::{
-    ComponentFault, ComponentFileAnswer, SourceAnswer, SourceFault, read_component_file,
-    read_source,
-};
+//! What no clause says: with ample memory a source file is read, and so is its first fault.
+use crate::{SourceAnswer, SourceFault, read_source};
 use brs_parser::SyntaxFault;
 use brs_tokens::{LexFault, LexKind};
-use component_files::ComponentSyntax;
 use static_faults::{StaticFault, StaticKind};
 use std::alloc::Global;
 use std::test::Fail;
@@ -19,18 +15,6 @@ fn read(alloc: Global, src: &str) -> Option<Result<usize, SourceFault>> {
         Ok(file) => Some(Ok(file.tree().functions.len())),
         Err(SourceAnswer::Fault(fault)) => Some(Err(fault)),
         Err(SourceAnswer::NoMemory) => None,
-    }
-}
-
-/// The same of a component file, with the number of its inline scripts.
-fn read_component(alloc: Global, src: &str) -> Option<Result<usize, ComponentFault>> {
-    if src.len() >= 1000 {
-        return None;
-    }
-    match read_component_file(alloc, src.as_bytes()) {
-        Ok(component) => Some(Ok(component.scripts.len())),
-        Err(ComponentFileAnswer::Fault(fault)) => Some(Err(fault)),
-        Err(ComponentFileAnswer::NoMemory) => None,
     }
 }
 
@@ -73,35 +57,6 @@ fn lexical_faults_come_before_syntax_and_syntax_before_static_faults(
         ("sub main()\nexit for\na.b\n", Err(syntax(10, 3, 4))),
     ] {
         assert_eq!(rt; read(rt.alloc(), src), Some(want));
-    }
-    Ok(())
-}
-
-#[test]
-fn a_component_file_is_looked_at_before_its_inline_scripts(rt: HostRuntime) -> Result<(), Fail> {
-    for (src, want) in [
-        (
-            "<component name='a'><script uri='b.brs'/></component>",
-            Ok(0),
-        ),
-        (
-            "<component name='a'><script><![CDATA[sub init()\nend sub\n]]></script></component>",
-            Ok(1),
-        ),
-        (
-            "<component name='a'>\n<script><![CDATA[sub init()\na.b\nend sub]]></script></component>",
-            Err(ComponentFault::Script(syntax(7, 3, 4))),
-        ),
-        (
-            "<component name='a'>\n<script><![CDATA[/]]></script><script><![CDATA[*]]></script></component>",
-            Err(ComponentFault::Script(lexical(LexKind::Slash, 2, 1))),
-        ),
-        (
-            "<component name='a'>\n<script><![CDATA[/]]></script>\n<b/></component>",
-            Err(ComponentFault::Element(ComponentSyntax { line: 3 })),
-        ),
-    ] {
-        assert_eq!(rt; read_component(rt.alloc(), src), Some(want));
     }
     Ok(())
 }

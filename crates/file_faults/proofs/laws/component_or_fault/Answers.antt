@@ -1,5 +1,0 @@
-use Rattle.file_faults.proofs.Components.{component_or_fault}
-use Rattle.file_faults.proofs.laws.component_or_fault.Goals as goal
-
-pub returns : goal.returns
-returns c = component_or_fault c.tree_or_fault.ensures c.file_or_fault.ensures
