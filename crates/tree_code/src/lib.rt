@@ -9,7 +9,5 @@ mod file;
 mod functions;
 mod statements;
 mod targets;
-#[cfg(test)]
-mod tests;
 
 pub use file::file_drafts;
