@@ -1,6 +1,7 @@
 pub mod OperandLaws
 pub mod DeliverLaws
 pub mod MessageLaws
+pub mod DataLaws
 pub mod CreateLaws
 pub mod KeyListLaws
 pub mod EntryCounts

@@ -3,6 +3,7 @@ pub mod Outcomes
 pub mod Delivers
 pub mod Told
 pub mod MessageAnswers
+pub mod MessageData
 pub mod KeyLists
 pub mod Joins
 pub mod Table

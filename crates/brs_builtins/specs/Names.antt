@@ -60,6 +60,7 @@ message_words =
     (codes "getfield", o.MessageMethod e.Field)
     ∷ (codes "getnode", o.MessageMethod e.Id)
     ∷ (codes "getrosgnode", o.MessageMethod e.Node)
+    ∷ (codes "getdata", o.MessageData)
     ∷ []
 
 abbrev pub plain_words : List (List ℕ × Operation)

@@ -4,6 +4,7 @@
 
 mod append;
 mod create;
+mod data;
 mod keys;
 mod messages;
 mod names;

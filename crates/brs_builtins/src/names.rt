@@ -48,13 +48,14 @@ const MAP_METHODS: [(&[u8], Operation); 8] = [
     (b"append", Operation::AppendEntries),
 ];
 
-const MESSAGE_METHODS: [(&[u8], Operation); 3] = [
+const MESSAGE_METHODS: [(&[u8], Operation); 4] = [
     (b"getfield", Operation::MessageMethod(MessageMethod::Field)),
     (b"getnode", Operation::MessageMethod(MessageMethod::Id)),
     (
         b"getrosgnode",
         Operation::MessageMethod(MessageMethod::Node),
     ),
+    (b"getdata", Operation::MessageData),
 ];
 
 const PLAIN_METHODS: [(&[u8], Operation); 4] = [

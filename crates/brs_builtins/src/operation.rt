@@ -38,4 +38,6 @@ pub enum Operation {
     AppendEntries,
     /// A method of messages that reads what the message tells.
     MessageMethod(MessageMethod),
+    /// `getData()` of a message: what it carries, laid down anew.
+    MessageData,
 }

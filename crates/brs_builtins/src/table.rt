@@ -5,6 +5,7 @@ ghost use Rattle.brs_builtins.specs.Table.{applied};
 
 use crate::append::call_append;
 use crate::create::create_object;
+use crate::data::call_data;
 use crate::keys::call_keys;
 use crate::messages::call_message_method;
 use crate::operation::Operation;
@@ -47,5 +48,6 @@ pub fn apply(
         Operation::Keys => call_keys(alloc, heap, arguments),
         Operation::AppendEntries => call_append(alloc, heap, arguments),
         Operation::MessageMethod(method) => call_message_method(alloc, heap, method, arguments),
+        Operation::MessageData => call_data(alloc, heap, arguments),
     }
 }
