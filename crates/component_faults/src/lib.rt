@@ -7,12 +7,15 @@
 
 mod bases;
 mod children;
+mod fields;
 mod main_function;
 mod names;
+mod rows;
 mod types;
 
 pub use bases::check_bases;
 pub use children::check_children;
+pub use fields::check_duplicate_fields;
 pub use main_function::check_main;
 pub use names::kind_table;
 pub use types::check_types;

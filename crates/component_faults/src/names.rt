@@ -32,7 +32,7 @@ fn add_word(alloc: Global, names: &mut NameTable, word: &str, place: usize) -> R
     names.add(name, place)
 }
 
-fn table_of(alloc: Global, words: &[&str]) -> Result<NameTable, NoMemory>
+pub(crate) fn table_of(alloc: Global, words: &[&str]) -> Result<NameTable, NoMemory>
     ensures { IfOk result (λ names. HasPlaces names (map (λ word. word.now) words.now)) }
 {
     let mut names = NameTable::new(alloc);
