@@ -1,2 +1,0 @@
-pub mod SourceFaults
-pub mod Answers
