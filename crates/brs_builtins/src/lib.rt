@@ -13,6 +13,3 @@ pub use object_operations::{Applied, Receiver, receiver_of};
 pub use operands::operand_at;
 pub use operation::Operation;
 pub use table::apply;
-
-#[cfg(test)]
-mod tests;

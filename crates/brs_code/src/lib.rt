@@ -9,8 +9,6 @@ mod instr;
 mod join;
 mod rule;
 mod scope;
-#[cfg(test)]
-mod tests;
 mod verified;
 
 pub use code::Code;

@@ -10,6 +10,3 @@ mod leave;
 
 pub use lay::copy_in;
 pub use leave::{CopyFault, copy_out};
-
-#[cfg(test)]
-mod tests;

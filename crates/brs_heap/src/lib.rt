@@ -19,6 +19,3 @@ mod value;
 pub use heap::{Heap, SetFault};
 pub use heap_meaning::{Plain, Shape};
 pub use value::Value;
-
-#[cfg(test)]
-mod tests;

@@ -30,6 +30,3 @@ pub use place::Place;
 pub use quoted::text_value;
 pub use token::{Token, TokenKind};
 pub use token_list::TokenList;
-
-#[cfg(test)]
-mod tests;

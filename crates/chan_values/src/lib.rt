@@ -45,8 +45,3 @@ pub use writing::{text_of_value, write_value};
 /// Memory ran out. The object of the call is as it was, except where the call says otherwise.
 #[derive(Clone, Copy, Debug, PartialEq, Eq)]
 pub struct NoMemory;
-
-#[cfg(test)]
-mod tests;
-#[cfg(test)]
-mod value_tests;

@@ -4,4 +4,6 @@
 #![tactic(auto)]
 
 #[cfg(test)]
+mod piece_tests;
+#[cfg(test)]
 mod tests;

@@ -15,6 +15,3 @@ pub use key_name::KeyName;
 pub use laws::{later_bytes_change_nothing, pieces_make_no_difference};
 pub use replies::reply;
 pub use request::{Request, read_request};
-
-#[cfg(test)]
-mod tests;

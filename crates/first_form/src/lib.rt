@@ -10,6 +10,3 @@ pub mod tree;
 mod words;
 
 pub use source::first_main;
-
-#[cfg(test)]
-mod tests;

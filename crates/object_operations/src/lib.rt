@@ -24,6 +24,3 @@ pub use message_method::MessageMethod;
 pub use methods::call_array_method;
 pub use receiver::{Receiver, receiver_of};
 pub use types::call_type;
-
-#[cfg(test)]
-mod tests;

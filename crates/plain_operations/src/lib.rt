@@ -36,10 +36,3 @@ pub use operator::{Operator, UnaryOperator};
 pub use operators::{operate, operate_alone};
 pub use outcome::Outcome;
 pub use shape::{Argument, Shape, argue, one_shape, three_shape, two_shape};
-
-#[cfg(test)]
-mod function_tests;
-#[cfg(test)]
-mod operator_tests;
-#[cfg(test)]
-mod tests;

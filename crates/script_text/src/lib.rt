@@ -10,6 +10,3 @@ mod write;
 pub use literal::decoded_character;
 pub use read::read_line;
 pub use write::write_line;
-
-#[cfg(test)]
-mod tests;

@@ -10,6 +10,3 @@ pub use cursor::{Cursor, ParseError};
 pub use ending::{EndedTurns, ended};
 pub use held::{Held, discard};
 pub use repeat::{keep, many, prepend, trail};
-
-#[cfg(test)]
-mod tests;

@@ -12,6 +12,3 @@ pub use entry::EntryName;
 pub use observer::Observer;
 pub use report::{ReportLine, write_report};
 pub use trace::{TraceLine, write_trace};
-
-#[cfg(test)]
-mod tests;

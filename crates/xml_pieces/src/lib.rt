@@ -18,6 +18,3 @@ pub use laws::{read_pieces_were_written, written_pieces_are_read};
 pub use part::Part;
 pub use piece::{AttributeText, Piece, Tag};
 pub use read_error::ReadError;
-
-#[cfg(test)]
-mod tests;

@@ -1,5 +1,5 @@
 //! Code that keeps the rule, code that breaks each part of it alone, and the code of several files.
-use crate::{
+use brs_code::{
     Code, Function, Instr, Mark, Operator, Parameter, Placed, ScopeEntry, ScopeList, ValueType,
     verify,
 };

@@ -1,12 +1,12 @@
 //! Worked examples: what methods, reads and writes answer, and what they leave.
 ghost use Rattle.std.specs.Prelude.{◌≡◌, ◌+◌, ◌^◌, ◌<◌, ◌≤◌};
 
-use crate::{
+use brs_heap::{Heap, Plain, Value};
+use chan_values::{ErrorCode, NoMemory, Text};
+use object_operations::{
     Applied, ArrayMethod, MapMethod, call_array_method, call_map_method, call_type, read_index,
     write_index,
 };
-use brs_heap::{Heap, Plain, Value};
-use chan_values::{ErrorCode, NoMemory, Text};
 use std::alloc::Global;
 use std::test::Fail;
 

@@ -1,7 +1,7 @@
 //! The happy paths of each call, with ample memory, and the bounds of arrays and keys.
 ghost use Rattle.std.specs.Prelude.{◌≡◌};
 
-use crate::{Heap, Plain, SetFault, Shape, Value};
+use brs_heap::{Heap, Plain, SetFault, Shape, Value};
 use chan_values::{Message, Portable, Text};
 use std::alloc::Global;
 use std::test::Fail;

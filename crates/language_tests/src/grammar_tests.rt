@@ -1,7 +1,9 @@
 //! What no clause says: a tree crosses threads, and what is made of words.
-use crate::classes::{begins_expression, begins_key, begins_line, begins_named, begins_simple};
-use crate::signs::{comparison_sign, ends_in_call, product_sign, type_of};
-use crate::tree::{
+use brs_grammar::classes::{
+    begins_expression, begins_key, begins_line, begins_named, begins_simple,
+};
+use brs_grammar::signs::{comparison_sign, ends_in_call, product_sign, type_of};
+use brs_grammar::tree::{
     ComparisonSign, FileTree, Name, NamedFunction, Postfix, ProductSign, Rest, Target, TypeWord,
 };
 use brs_tokens::Place;

@@ -1,5 +1,5 @@
 //! What no clause says: the happy paths, and that the types cross threads.
-use crate::{Bytes, FolderFault, NoMemory, Text, fold_name};
+use chan_values::{Bytes, FolderFault, NoMemory, Text, fold_name};
 use std::alloc::Global;
 use std::test::Fail;
 use std::thread::join;

@@ -1,7 +1,7 @@
 //! What no clause says: with ample memory each kind of piece is read.
-use crate::{Cursor, Piece, ReadError};
 use std::alloc::Global;
 use std::test::Fail;
+use xml_pieces::{Cursor, Piece, ReadError};
 
 /// One letter for each piece of a text, and `!` where no piece stands.
 fn kinds(alloc: Global, text: &[u8]) -> Result<String, Fail> {

@@ -1,6 +1,6 @@
 //! What no clause says: lines that are read and written, as tables.
-use crate::{decoded_character, read_line, write_line};
 use chan_values::{Event, Key};
+use script_text::{decoded_character, read_line, write_line};
 use std::test::Fail;
 
 const EVENTS: [(&[u8], Event); 20] = [

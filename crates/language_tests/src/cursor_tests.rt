@@ -1,10 +1,10 @@
 //! The loops at a concrete type, and the words that they stop at.
-use crate::{Cursor, EndedTurns, ParseError, ended, many, trail};
 use brs_tokens::lex;
 use grammar_rules::{Word, same_word};
 use sqlite_items::Items;
 use std::alloc::Global;
 use std::test::Fail;
+use token_cursor::{Cursor, EndedTurns, ParseError, ended, many, trail};
 
 fn is_name(word: Word) -> bool {
     same_word(Word::Name, word)

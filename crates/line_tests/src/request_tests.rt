@@ -1,6 +1,6 @@
 //! What no clause says: requests in full, as tables.
-use crate::{Request, read_request, reply, write_key_lines};
 use chan_values::Key;
+use ecp_requests::{Request, read_request, reply, write_key_lines};
 use std::alloc::{AllocError, Global};
 use std::test::Fail;
 

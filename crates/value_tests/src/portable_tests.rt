@@ -1,7 +1,7 @@
 //! What no clause says of portable values: the happy paths, the bounds, and that values cross threads.
 ghost use Rattle.std.specs.Prelude.{◌≡◌, IfOk};
 
-use crate::{
+use chan_values::{
     ArgumentList, ErrorCode, ItemList, Message, NoMemory, Pair, PairList, Portable, Text,
     copy_message, copy_portable, escape_text, measure, same, text_of_value, write_value,
 };

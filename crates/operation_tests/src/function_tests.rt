@@ -1,6 +1,6 @@
 //! What functions and methods give, at each bound: the expected values are worked out by hand.
-use crate::tests::{check, value};
-use crate::{
+use crate::plain_tests::{check, value};
+use plain_operations::{
     PlainFunction, PlainMethod, Shape, argue, call_function, call_method, one_shape, three_shape,
     two_shape,
 };

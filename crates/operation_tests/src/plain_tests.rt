@@ -1,10 +1,10 @@
 //! What outcomes of tests are compared by, and the small tables: names, declared types, conditions.
-use crate::Operand::{Boolean, Function, Integer, Invalid, LongInteger, Other, Words};
-use crate::{
+use chan_values::{NoMemory, Text};
+use plain_operations::Operand::{Boolean, Function, Integer, Invalid, LongInteger, Other, Words};
+use plain_operations::{
     Fit, Operand, Outcome, PlainFunction, PlainMethod, ValueType, condition, decides_and,
     decides_or, fit_value, function_named, has_method, method_named,
 };
-use chan_values::{NoMemory, Text};
 use std::alloc::Global;
 use std::process::Abort;
 use std::test::Fail;

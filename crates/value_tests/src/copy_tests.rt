@@ -2,7 +2,7 @@
 //! again. Where memory is wanting, a helper leaves something out, and the answer is another.
 ghost use Rattle.std.specs.Prelude.{◌≡◌, ◌+◌, ◌^◌, ◌<◌, ◌≤◌};
 
-use crate::{CopyFault, copy_in, copy_out};
+use brs_copy::{CopyFault, copy_in, copy_out};
 use brs_heap::{Heap, Plain, Value};
 use chan_values::{Measure, Message, NoMemory, Portable, Text, measure, same, text_of_value};
 use std::alloc::Global;

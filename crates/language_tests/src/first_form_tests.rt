@@ -1,5 +1,5 @@
 //! Source files of the first form, and files that just miss it.
-use crate::first_main;
+use first_form::first_main;
 use std::alloc::Global;
 use std::process::Abort;
 use std::test::Fail;

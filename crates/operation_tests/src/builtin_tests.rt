@@ -1,5 +1,5 @@
 //! Worked examples: one call of each family of operations, and names.
-use crate::{Applied, Operation, Receiver, apply, function_named, method_named};
+use brs_builtins::{Applied, Operation, Receiver, apply, function_named, method_named};
 use brs_heap::{Heap, Plain, Value};
 use chan_values::{ErrorCode, NoMemory, Text};
 use object_operations::{ArrayMethod, MapMethod};

@@ -1,6 +1,6 @@
 //! What operators give, at each bound: the expected values are worked out by hand.
-use crate::tests::{check, long_text, value};
-use crate::{LONGEST_TEXT, Operand, Operator, UnaryOperator, operate, operate_alone};
+use crate::plain_tests::{check, long_text, value};
+use plain_operations::{LONGEST_TEXT, Operand, Operator, UnaryOperator, operate, operate_alone};
 use std::alloc::Global;
 use std::process::Abort;
 use std::test::Fail;

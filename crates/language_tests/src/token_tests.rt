@@ -1,5 +1,5 @@
 //! Worked examples of the spelling, and the happy paths.
-use crate::{
+use brs_tokens::{
     LexAnswer, LexFault, LexKind, NumberValue, TokenKind, TokenList, lex, lex_first, number_value,
     text_value,
 };

@@ -1,7 +1,7 @@
 //! Each form of line, with texts that are escaped.
-use crate::{EntryName, Observer, ReportLine, TraceLine, write_report, write_trace};
 use chan_values::{EndReason, ErrorCode, Key, Portable, Text};
 use std::test::Fail;
+use trace_report::{EntryName, Observer, ReportLine, TraceLine, write_report, write_trace};
 
 #[test]
 fn transcript_lines_are_written_one_after_another(rt: HostRuntime) -> Result<(), Fail> {
