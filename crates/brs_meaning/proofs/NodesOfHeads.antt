@@ -48,7 +48,7 @@ use Rattle.brs_meaning.specs.Request as r
 use Rattle.brs_meaning.specs.Request.{Access, Asks}
 use Rattle.brs_meaning.specs.Given.{Given, Gives, Calls, Wants, Fails, Setting, makes, answered}
 use Rattle.brs_meaning.specs.Leaving.{leaving, all_leaving}
-use Rattle.brs_meaning.specs.Operands.{operand, answer_of}
+use Rattle.brs_builtins.specs.Operands.{operand, answer_of}
 use Rattle.brs_meaning.specs.Literals.{number_of, number_spelled}
 use Rattle.brs_meaning.specs.Taking.{taking, text_then, node_then, port_then, number_then, truth_then, value_then, target_then}
 use Rattle.brs_meaning.specs.Names.{function_named, name_value, found, named}

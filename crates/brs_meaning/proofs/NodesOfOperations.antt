@@ -27,7 +27,7 @@ use Rattle.object_operations.specs.declared.map_method.MapMethod.{MapMethod}
 use Rattle.object_operations.specs.declared.map_method.MapMethod.TheVariants as mm
 use Rattle.object_operations.specs.declared.message_method.MessageMethod.{MessageMethod}
 use Rattle.object_operations.specs.declared.message_method.MessageMethod.TheVariants as em
-use Rattle.brs_meaning.specs.Operands.{answer_of}
+use Rattle.brs_builtins.specs.Operands.{answer_of}
 use Rattle.brs_meaning.specs.Nodes.{Each, IfSome, ValueNames, EntriesName, ObjectNames, StoreNames, MessageNames}
 use Rattle.brs_meaning.proofs.EachLaws.{each_append, each_get, each_set, each_remove, each_filter, each_placed}
 

@@ -23,7 +23,7 @@ use Rattle.brs_grammar.specs.Form.{Text, Aim, ToName, ToMember, ToIndex, Head, F
 use Rattle.brs_meaning.specs.Program.{Program, Function, place_in}
 use Rattle.brs_meaning.specs.Locals.{Locals, Home, local, assigned}
 use Rattle.brs_meaning.specs.Typed.{value_type, fit_value, typed}
-use Rattle.brs_meaning.specs.Operands.{operand}
+use Rattle.brs_builtins.specs.Operands.{operand}
 use Rattle.brs_meaning.specs.Operators.{updating}
 use Rattle.brs_meaning.specs.Given as g
 use Rattle.brs_meaning.specs.Given.{Given, Setting}

@@ -14,7 +14,7 @@ use Rattle.brs_meaning.specs.declared.node_method.NodeMethod.{NodeMethod}
 use Rattle.object_operations.specs.Types.{type_row}
 use Rattle.brs_grammar.specs.Form.{Text}
 use Rattle.brs_meaning.specs.Given.{Given, Calls, Fails, Setting, answered}
-use Rattle.brs_meaning.specs.Operands.{operand, answer_of}
+use Rattle.brs_builtins.specs.Operands.{operand, answer_of}
 use Rattle.brs_meaning.specs.WorldCalls.{port_call, screen_call, create_object, wait}
 use Rattle.brs_meaning.specs.NodeCalls.{node_call}
 use Rattle.brs_meaning.specs.MethodNames.{node_method_named}

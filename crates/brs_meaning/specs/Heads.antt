@@ -15,7 +15,7 @@ use Rattle.brs_grammar.specs.Form.{Text, Head, Number, Quoted, Truth, Invalid, N
 use Rattle.brs_meaning.specs.Given.{Given, Gives, Fails, Setting, makes, answered}
 use Rattle.brs_forms.specs.Words.{readable, text_of, key_of}
 use Rattle.brs_meaning.specs.Literals.{number_of}
-use Rattle.brs_meaning.specs.Operands.{operand, answer_of}
+use Rattle.brs_builtins.specs.Operands.{operand, answer_of}
 use Rattle.brs_meaning.specs.Operators.{comparison, shift, sum, product}
 use Rattle.brs_meaning.specs.Names.{named}
 use Rattle.brs_meaning.specs.Members.{member_read, index_read}

@@ -2,7 +2,6 @@ pub mod Program
 pub mod Locals
 pub mod Request
 pub mod Literals
-pub mod Operands
 pub mod Operators
 pub mod Typed
 pub mod Leaving

@@ -20,7 +20,7 @@ use Rattle.object_operations.specs.declared.message_method.MessageMethod.{Messag
 use Rattle.brs_grammar.specs.Form.{Text}
 use Rattle.brs_meaning.specs.Given.{Given, Gives, Fails, answered}
 use Rattle.brs_meaning.specs.MethodNames.{array_method_named, map_method_named, message_method_named}
-use Rattle.brs_meaning.specs.Operands.{operand, answer_of}
+use Rattle.brs_builtins.specs.Operands.{operand, answer_of}
 
 abbrev pub array_called : Option ArrayMethod → (x : StoreValue) → (arguments : List StoreValue) → Store → Given
 array_called (Some method) x arguments store = answered (array_row method (x ∷ arguments) store)

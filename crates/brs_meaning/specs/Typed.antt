@@ -9,7 +9,7 @@ use Rattle.plain_operations.specs.declared.fit.Fit.{Fit}
 use Rattle.plain_operations.specs.declared.fit.Fit.TheVariants as f
 use Rattle.plain_operations.specs.declared.fit.ValueType.{ValueType}
 use Rattle.plain_operations.specs.declared.fit.ValueType.TheVariants as v
-use Rattle.brs_meaning.specs.Operands.{operand}
+use Rattle.brs_builtins.specs.Operands.{operand}
 
 abbrev pub word_type : TypeWord → ValueType
 word_type w.Integer = v.Integer

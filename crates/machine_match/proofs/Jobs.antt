@@ -25,7 +25,7 @@ use Rattle.brs_meaning.specs.Given as t
 use Rattle.brs_meaning.specs.Given.{answered}
 use Rattle.brs_meaning.specs.Names.{found, name_value}
 use Rattle.brs_meaning.specs.Members.{member_read, index_read}
-use Rattle.brs_meaning.specs.Operands.{operand, answer_of}
+use Rattle.brs_builtins.specs.Operands.{operand, answer_of}
 use Rattle.brs_meaning.specs.Operators.{updating}
 use Rattle.brs_meaning.specs.Typed as ty
 use Rattle.brs_meaning.specs.Heads.{binary}

@@ -27,7 +27,7 @@ use Rattle.brs_meaning.specs.Locals.{Home, Locals, assigned}
 use Rattle.brs_meaning.specs.Given as t
 use Rattle.brs_meaning.specs.Given.{Given}
 use Rattle.brs_meaning.specs.Members.{member_written, index_written}
-use Rattle.brs_meaning.specs.Operands.{operand}
+use Rattle.brs_builtins.specs.Operands.{operand}
 use Rattle.brs_meaning.specs.Typed as ty
 use Rattle.brs_meaning.specs.Did as d
 use Rattle.brs_meaning.specs.Printing.{Printing, Printed, Unprinted}

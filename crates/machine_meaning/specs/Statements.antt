@@ -12,7 +12,7 @@ use Rattle.brs_grammar.specs.Form as f
 use Rattle.brs_meaning.specs.Given as g
 use Rattle.brs_meaning.specs.Given.{Given}
 use Rattle.brs_meaning.specs.Members.{member_read, member_written, index_read, index_written}
-use Rattle.brs_meaning.specs.Operands.{operand}
+use Rattle.brs_builtins.specs.Operands.{operand}
 use Rattle.brs_meaning.specs.Typed.{fit_value}
 use Rattle.brs_meaning.specs.Statements.{number, numbers, within, variable_number, stepped, object_at, items_of}
 use Rattle.brs_meaning.specs.Printing.{Printing, Printed, Unprinted}
