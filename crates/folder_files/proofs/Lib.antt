@@ -1,0 +1,5 @@
+pub mod Sizes
+pub mod Gathering
+pub mod Reading
+pub mod ManifestLines
+pub mod BadLines
