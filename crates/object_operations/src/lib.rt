@@ -1,5 +1,5 @@
-//! Operations on arrays, associative arrays and messages, and reads and writes of members and
-//! indexes, each exactly by its row of the table.
+//! Operations on arrays and associative arrays, reads and writes of members and indexes, and the names of types, each
+//! exactly by its row of the table. The rows of what makes objects and of messages are definitions here, without code.
 #![tactic(auto)]
 
 mod applied;

@@ -1,4 +1,4 @@
-//! The name of a value's type, and objects made by name.
+//! The name of a value's type.
 ghost use Rattle.std.specs.Prelude.{◌≡◌, IfOk};
 ghost use Rattle.heap_meaning.specs.Heap.{content_at};
 ghost use Rattle.heap_meaning.specs.Reading.{plain_of, shape_in};
