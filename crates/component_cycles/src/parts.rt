@@ -6,96 +6,97 @@ use crate::lists::{push, unmarked, zeros};
 use chan_values::NoMemory;
 use std::alloc::Global;
 
-/// A kind on the way of a walk, and how many of the kinds that it names are still to be looked at.
+/// A kind that a walk visits, and how many of the kinds that it names are still to be looked at.
 #[derive(Clone, Copy)]
-struct Turn {
+struct Visit {
     place: usize,
     left: usize,
 }
 
-fn begin_turn(
+/// Begins the visit of a kind that is not seen yet.
+fn begin_visit(
     graph: &[NamedKinds],
     place: usize,
     seen: &mut Vec<bool>,
-    way: &mut Vec<Turn>,
+    stack: &mut Vec<Visit>,
 ) -> Result<(), NoMemory> {
     if place >= seen.len() || seen[place] {
         return Ok(());
     }
     seen[place] = true;
-    push_turn(
-        way,
-        Turn {
+    push_visit(
+        stack,
+        Visit {
             place,
             left: named_at(graph, place).len(),
         },
     )
 }
 
-fn push_turn(way: &mut Vec<Turn>, turn: Turn) -> Result<(), NoMemory> {
-    match way.push(turn) {
+fn push_visit(stack: &mut Vec<Visit>, visit: Visit) -> Result<(), NoMemory> {
+    match stack.push(visit) {
         Ok(()) => Ok(()),
         Err(_) => Err(NoMemory),
     }
 }
 
-/// Looks at the next kind that a kind names, or ends its turn.
+/// Looks at the next kind that a kind names, or ends its visit.
 fn go_on(
     graph: &[NamedKinds],
-    turn: Turn,
+    visit: Visit,
     seen: &mut Vec<bool>,
-    way: &mut Vec<Turn>,
-    ended: &mut Vec<usize>,
+    stack: &mut Vec<Visit>,
+    finished: &mut Vec<usize>,
 ) -> Result<(), NoMemory> {
-    let Turn { place, left } = turn;
+    let Visit { place, left } = visit;
     if left == 0 {
-        return push(ended, place);
+        return push(finished, place);
     }
     let left = left - 1;
-    push_turn(way, Turn { place, left })?;
+    push_visit(stack, Visit { place, left })?;
     match named_at(graph, place).get(left) {
-        Some(other) => begin_turn(graph, *other, seen, way),
+        Some(other) => begin_visit(graph, *other, seen, stack),
         None => Ok(()),
     }
 }
 
-/// How many turns a walk over all kinds takes at most.
-fn turns(graph: &[NamedKinds]) -> usize {
-    let mut turns = graph.len();
+/// How many steps a walk over all kinds takes at most.
+fn steps_of(graph: &[NamedKinds]) -> usize {
+    let mut steps = graph.len();
     for row in graph {
-        turns = turns.saturating_add(row.places.len());
+        steps = steps.saturating_add(row.places.len());
     }
-    turns
+    steps
 }
 
-/// Walks depth-first from a kind over those that are not seen yet, and adds each where its turn ends. Takes at most `bound` turns.
+/// Walks depth-first from a kind over those that are not seen yet, and adds each where its visit ends. Takes at most `bound` steps.
 fn walk(
     alloc: Global,
     graph: &[NamedKinds],
     bound: usize,
     start: usize,
     seen: &mut Vec<bool>,
-    ended: &mut Vec<usize>,
+    finished: &mut Vec<usize>,
 ) -> Result<(), NoMemory> {
-    let mut way = Vec::new(alloc);
-    begin_turn(graph, start, seen, &mut way)?;
-    for _turn in 0..bound {
-        let Some(turn) = way.pop() else {
+    let mut stack = Vec::new(alloc);
+    begin_visit(graph, start, seen, &mut stack)?;
+    for _step in 0..bound {
+        let Some(visit) = stack.pop() else {
             return Ok(());
         };
-        go_on(graph, turn, seen, &mut way, ended)?;
+        go_on(graph, visit, seen, &mut stack, finished)?;
     }
     Ok(())
 }
 
-/// All kinds in the order in which their turns end.
+/// All kinds in the order in which their visits end.
 fn order_of(alloc: Global, graph: &[NamedKinds], bound: usize) -> Result<Vec<usize>, NoMemory> {
     let mut seen = unmarked(alloc, graph.len())?;
-    let mut ended = Vec::new(alloc);
+    let mut finished = Vec::new(alloc);
     for place in 0..graph.len() {
-        walk(alloc, graph, bound, place, &mut seen, &mut ended)?;
+        walk(alloc, graph, bound, place, &mut seen, &mut finished)?;
     }
-    Ok(ended)
+    Ok(finished)
 }
 
 /// Adds the step from each of these kinds to another.
@@ -130,9 +131,10 @@ fn set_all(numbers: &mut [usize], places: &[usize], number: usize) {
     }
 }
 
-/// The number of each kind's part. A part is found by a walk against the steps, from the kind whose turn ended last of those that are in no part yet.
+/// The number of each kind's part. A part is found by a walk against the steps, from the kind whose visit ended last of
+/// those that are in no part yet.
 pub(crate) fn part_numbers(alloc: Global, graph: &[NamedKinds]) -> Result<Vec<usize>, NoMemory> {
-    let bound = turns(graph);
+    let bound = steps_of(graph);
     let mut order = order_of(alloc, graph, bound)?;
     let reversed = reversed(alloc, graph)?;
     let mut seen = unmarked(alloc, graph.len())?;

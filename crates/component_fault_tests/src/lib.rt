@@ -1,0 +1,11 @@
+//! The tests of the faults of a channel's components.
+//!
+//! They stand in a crate of their own, since a crate with tests is proved twice.
+#![tactic(auto)]
+
+#[cfg(test)]
+mod channels;
+#[cfg(test)]
+mod field_tests;
+#[cfg(test)]
+mod kind_tests;
