@@ -4,10 +4,10 @@ ghost use Rattle.plain_operations.specs.Names.{beside};
 ghost use Rattle.brs_builtins.specs.Names as spec;
 
 use crate::operation::Operation;
-use object_operations::{ArrayMethod, MapMethod, Receiver};
+use object_operations::{ArrayMethod, MapMethod, MessageMethod, Receiver};
 use plain_operations::{PlainFunction, PlainMethod};
 
-const FUNCTIONS: [(&[u8], Operation); 14] = [
+const FUNCTIONS: [(&[u8], Operation); 15] = [
     (b"abs", Operation::Function(PlainFunction::Abs)),
     (b"asc", Operation::Function(PlainFunction::Asc)),
     (b"chr", Operation::Function(PlainFunction::Chr)),
@@ -22,6 +22,7 @@ const FUNCTIONS: [(&[u8], Operation); 14] = [
     (b"stri", Operation::Function(PlainFunction::StrI)),
     (b"strtoi", Operation::Function(PlainFunction::StrToI)),
     (b"type", Operation::TypeName),
+    (b"createobject", Operation::CreateObject),
 ];
 
 const ARRAY_METHODS: [(&[u8], Operation); 9] = [
@@ -36,13 +37,25 @@ const ARRAY_METHODS: [(&[u8], Operation); 9] = [
     (b"append", Operation::ArrayMethod(ArrayMethod::Append)),
 ];
 
-const MAP_METHODS: [(&[u8], Operation); 6] = [
+const MAP_METHODS: [(&[u8], Operation); 8] = [
     (b"addreplace", Operation::MapMethod(MapMethod::AddReplace)),
     (b"clear", Operation::MapMethod(MapMethod::Clear)),
     (b"lookup", Operation::MapMethod(MapMethod::Lookup)),
     (b"doesexist", Operation::MapMethod(MapMethod::DoesExist)),
     (b"delete", Operation::MapMethod(MapMethod::Delete)),
     (b"count", Operation::MapMethod(MapMethod::Count)),
+    (b"keys", Operation::Keys),
+    (b"append", Operation::AppendEntries),
+];
+
+const MESSAGE_METHODS: [(&[u8], Operation); 4] = [
+    (b"getfield", Operation::MessageMethod(MessageMethod::Field)),
+    (b"getnode", Operation::MessageMethod(MessageMethod::Id)),
+    (
+        b"getrosgnode",
+        Operation::MessageMethod(MessageMethod::Node),
+    ),
+    (b"getdata", Operation::MessageData),
 ];
 
 const PLAIN_METHODS: [(&[u8], Operation); 4] = [
@@ -83,9 +96,10 @@ pub fn method_named(receiver: Receiver, name: &[u8]) -> Option<Operation>
     ensures { result ≡ spec.method_named receiver name.now }
 {
     match receiver {
-        Receiver::Invalid | Receiver::Message => None,
+        Receiver::Invalid => None,
         Receiver::Array => operation_beside(&ARRAY_METHODS, name),
         Receiver::Pairs => operation_beside(&MAP_METHODS, name),
+        Receiver::Message => operation_beside(&MESSAGE_METHODS, name),
         Receiver::Other => operation_beside(&PLAIN_METHODS, name),
     }
 }

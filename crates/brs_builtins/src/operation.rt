@@ -1,5 +1,5 @@
 //! The operations of the language that touch no node, no port and no screen.
-use object_operations::{ArrayMethod, MapMethod};
+use object_operations::{ArrayMethod, MapMethod, MessageMethod};
 use plain_operations::{Operator, PlainFunction, PlainMethod, UnaryOperator};
 
 /// An operation. Its arguments stand in the order of the source; what a member, an index or a method
@@ -24,10 +24,20 @@ pub enum Operation {
     Function(PlainFunction),
     /// `Type(v)`: the name of a value's type.
     TypeName,
+    /// `CreateObject(k, ..)`, for what needs no node, no port and no screen.
+    CreateObject,
     /// A method of texts, numbers and Booleans.
     PlainMethod(PlainMethod),
     /// A method of arrays.
     ArrayMethod(ArrayMethod),
     /// A method of associative arrays.
     MapMethod(MapMethod),
+    /// `keys()` of an associative array: its keys in ascending order.
+    Keys,
+    /// `append(aa)` of an associative array: it gets the entries of another one.
+    AppendEntries,
+    /// A method of messages that reads what the message tells.
+    MessageMethod(MessageMethod),
+    /// `getData()` of a message: what it carries, laid down anew.
+    MessageData,
 }

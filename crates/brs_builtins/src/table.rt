@@ -7,6 +7,7 @@ use crate::operation::Operation;
 use crate::outcomes::{apply_function, apply_operator, apply_plain_method, apply_unary};
 use brs_heap::{Heap, Value};
 use chan_values::NoMemory;
+use object_makers::{call_append, call_data, call_keys, call_message_method, create_object};
 use object_operations::{
     Applied, call_array_method, call_map_method, call_type, read_index, read_member, write_index,
     write_member,
@@ -36,8 +37,13 @@ pub fn apply(
         Operation::WriteIndex => write_index(alloc, heap, arguments),
         Operation::Function(function) => apply_function(alloc, heap, function, arguments),
         Operation::TypeName => call_type(alloc, heap, arguments),
+        Operation::CreateObject => create_object(alloc, heap, arguments),
         Operation::PlainMethod(method) => apply_plain_method(alloc, heap, method, arguments),
         Operation::ArrayMethod(method) => call_array_method(heap, method, arguments),
         Operation::MapMethod(method) => call_map_method(alloc, heap, method, arguments),
+        Operation::Keys => call_keys(alloc, heap, arguments),
+        Operation::AppendEntries => call_append(alloc, heap, arguments),
+        Operation::MessageMethod(method) => call_message_method(alloc, heap, method, arguments),
+        Operation::MessageData => call_data(alloc, heap, arguments),
     }
 }

@@ -4,7 +4,7 @@ use Rattle.std.specs.List.{IsDistinct}
 use Rattle.std.specs.Bool.{nat_eq}
 use Rattle.node_tree.specs.declared.node.Node.{Node}
 use Rattle.node_tree.specs.Nodes.{parent_of}
-use Rattle.node_tree.specs.Family.{ancestry, has}
+use Rattle.node_tree.specs.Family.{ancestry}
 
 -- the focus, once it was taken from a node if that has it
 abbrev pub taken_from : Option ℕ → ℕ → Option ℕ
@@ -20,10 +20,6 @@ after_set focus node false = taken_from focus node
 abbrev pub focus_chain : List Node → Option ℕ → List ℕ
 focus_chain nodes None = []
 focus_chain nodes (Some n) = ancestry nodes n
-
--- no node is its own ancestor
-abbrev pub IsTree : List Node → Type 0
-IsTree nodes = (n p : ℕ) → parent_of nodes n ≡ Some p → has n (ancestry nodes p) ≡ false
 
 -- a list of nodes goes up from the focused one to one without a parent
 pub record IsChain (nodes : List Node) (focus : Option ℕ) (chain : List ℕ) : Type 0 where

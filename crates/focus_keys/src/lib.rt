@@ -10,6 +10,3 @@ pub use chain_list::ChainList;
 pub use focus::Focus;
 pub use laws::chains_go_up;
 pub use texts::key_text;
-
-#[cfg(test)]
-mod tests;

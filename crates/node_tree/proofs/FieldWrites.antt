@@ -1,5 +1,5 @@
 -- What a set and an addition of a field make of the nodes.
-use Rattle.std.proofs.Common.{◌≡◌, ℕ, ◌-◌, ◌≤◌, Bool, true, false, List, [], ◌∷◌, ◌++◌, Option, Some, None, length, set, get_or, refl, sym, ap, subst, ◌∙◌, arith}
+use Rattle.std.proofs.Common.{◌≡◌, ℕ, ◌-◌, Bool, true, false, List, [], ◌∷◌, ◌++◌, Option, Some, None, set, get_or, refl, sym, ap, ◌∙◌}
 use Rattle.std.specs.Prelude.{is_some, if◌then◌else◌}
 use Rattle.std.specs.Option.{option_copied}
 use Rattle.std.specs.Borrow.{Bor}
@@ -16,9 +16,7 @@ use Rattle.node_tree.specs.Nodes.{node_at, IsNode, fields_in, with_node, with_fi
 use Rattle.node_tree.specs.Fields.{field_named, with_value, with_fit, fit_of, fields_after_set, after_set, has_field, added_field, after_add}
 use Rattle.node_tree.proofs.Places.{with_same, fields_written, node_read}
 use Rattle.node_tree.proofs.Firsts.{same_first}
-use Rattle.node_tree.specs.Family.{IsSound}
 use Rattle.node_tree.proofs.SameTrees.{same_tells}
-use Rattle.node_tree.proofs.Kin.{fields_sound}
 
 fields_same : (f : List Field → List Field) (nodes : List Node) (n : ℕ) (x : Node) → node_at nodes n ≡ Some x → f x.fields ≡ x.fields → with_node (with_fields f) nodes n ≡ nodes
 fields_same f nodes n x e s = with_same (with_fields f) nodes n x e (ap (λ l. let y : Node = record x { fields = l } in y) s)
@@ -51,11 +49,6 @@ set_value seen nodes n x y name v w f fields same h e r found fits is =
     ap (λ l. set l (n - 1) (let z : Node = record x { fields = fields } in z)) same
     ∙ fields_written (fields_after_set name v) seen n x fields h read
     (is ∙ sym (ap (λ o. with_fit name (fit_of o v) x.fields) (ap (λ z. field_named name z.fields) (sym one) ∙ found) ∙ ap (λ q. with_fit name q x.fields) fits))
-
-pub set_sound : (seen nodes : List Node) (n : ℕ) (x : Node) (fields : List Field) → nodes ≡ seen → IsNode seen n → x ≡ get_or nodes (n - 1) x → IsSound nodes → IsSound (set nodes (n - 1) (record x { fields = fields }))
-set_sound seen nodes n x fields same h r sound =
-    subst IsSound (sym (fields_written (λ _. fields) nodes n x fields (subst (λ l. IsNode l n) (sym same) h) r refl))
-    (fields_sound (λ _. fields) nodes n sound)
 
 -- ---- an addition
 

@@ -1,17 +1,15 @@
 -- Parents and children stay one another's inverse.
-use Rattle.std.proofs.Common.{◌≡◌, ◌≢◌, ℕ, zero, suc, ◌+◌, ◌-◌, ◌<◌, ◌≤◌, Bool, true, false, not, cond, ◌⊎◌, inl, inr, List, [], ◌∷◌, ◌++◌, Option, Some, None, length, take, drop, refl, sym, ap, subst, ◌∙◌, arith}
-use Rattle.std.specs.Prelude.{◌==◌, ◌&&◌, ◌||◌, nat_eq, slice_get}
+use Rattle.std.proofs.Common.{◌≡◌, ◌≢◌, ℕ, zero, suc, ◌+◌, ◌-◌, ◌<◌, ◌≤◌, Bool, true, false, cond, ◌⊎◌, inl, inr, List, [], ◌∷◌, ◌++◌, Option, Some, None, length, take, drop, refl, sym, ap, subst, ◌∙◌, arith}
+use Rattle.std.specs.Prelude.{◌==◌, ◌||◌, nat_eq, slice_get}
 use Rattle.std.specs.List.{AllByRecursion, IsDistinct, list_any}
 use Rattle.std.proofs.lemmas.Bool.{eqb-true, eq-eqb}
 use Rattle.std.proofs.lemmas.Option.{slice_get_within}
 use Rattle.std.proofs.lemmas.List.{take-append-drop}
-use Rattle.std.proofs.lemmas.Map.Keys.{IsDistinct-cons}
 use Rattle.std.proofs.lemmas.Map.Steps.{length-le_from_distinct_below}
-use Rattle.node_tree.specs.declared.field.Field.{Field}
 use Rattle.node_tree.specs.declared.node.Node.{Node}
 use Rattle.node_tree.specs.declared.children.Place.{Place}
-use Rattle.node_tree.specs.Nodes.{node_at, IsNode, parent_in, parent_of, children_in, children_of, with_node, with_children, with_parent, with_fields}
-use Rattle.node_tree.specs.Family.{has, without, place_in, with_child, left_parent, left, standing, is, once_where, times, IsFamily, IsSound}
+use Rattle.node_tree.specs.Nodes.{node_at, IsNode, parent_in, parent_of, children_in, children_of, with_node, with_children, with_parent}
+use Rattle.node_tree.specs.Family.{has, without, place_in, with_child, left_parent, left, standing, is, once_where, times, IsFamily}
 use Rattle.node_tree.proofs.Places.{length_with, still_node, at_same, at_other, read_with}
 
 -- ---- numbers
@@ -185,10 +183,10 @@ few_children nodes family p =
 
 -- ---- a change of one node
 
-children_kept : (o : Option ℕ) (nodes : List Node) (n p : ℕ) → children_of (with_node (with_parent o) nodes n) p ≡ children_of nodes p
+pub children_kept : (o : Option ℕ) (nodes : List Node) (n p : ℕ) → children_of (with_node (with_parent o) nodes n) p ≡ children_of nodes p
 children_kept o nodes n p = read_with children_in (with_parent o) (λ x. refl) nodes n p
 
-parent_kept : (f : List ℕ → List ℕ) (nodes : List Node) (n m : ℕ) → parent_of (with_node (with_children f) nodes n) m ≡ parent_of nodes m
+pub parent_kept : (f : List ℕ → List ℕ) (nodes : List Node) (n m : ℕ) → parent_of (with_node (with_children f) nodes n) m ≡ parent_of nodes m
 parent_kept f nodes n m = read_with parent_in (with_children f) (λ x. refl) nodes n m
 
 past_none : {A : Type 0} (xs : List A) (i : ℕ) → slice_get xs i ≡ None → length xs ≤ i
@@ -205,18 +203,18 @@ there nodes (suc place) h = go (slice_get nodes place) refl
     go None e = absurd (let to : suc place ≤ length nodes = h.to in let past = past_none nodes place e in omega (arith, past))
     go (Some x) e = (x, e)
 
-children_here : (f : List ℕ → List ℕ) (nodes : List Node) (n : ℕ) → IsNode nodes n → children_of (with_node (with_children f) nodes n) n ≡ f (children_of nodes n)
+pub children_here : (f : List ℕ → List ℕ) (nodes : List Node) (n : ℕ) → IsNode nodes n → children_of (with_node (with_children f) nodes n) n ≡ f (children_of nodes n)
 children_here f nodes n h =
     let x = there nodes n h in
     ap children_in (at_same (with_children f) nodes n x.0 x.1) ∙ ap f (sym (ap children_in x.1))
 
-children_other : (f : List ℕ → List ℕ) (nodes : List Node) (n p : ℕ) → n ≢ p → children_of (with_node (with_children f) nodes n) p ≡ children_of nodes p
+pub children_other : (f : List ℕ → List ℕ) (nodes : List Node) (n p : ℕ) → n ≢ p → children_of (with_node (with_children f) nodes n) p ≡ children_of nodes p
 children_other f nodes n p ne = ap children_in (at_other (with_children f) nodes n p ne)
 
-parent_here : (o : Option ℕ) (nodes : List Node) (n : ℕ) → IsNode nodes n → parent_of (with_node (with_parent o) nodes n) n ≡ o
+pub parent_here : (o : Option ℕ) (nodes : List Node) (n : ℕ) → IsNode nodes n → parent_of (with_node (with_parent o) nodes n) n ≡ o
 parent_here o nodes n h = let x = there nodes n h in ap parent_in (at_same (with_parent o) nodes n x.0 x.1)
 
-parent_other : (o : Option ℕ) (nodes : List Node) (n m : ℕ) → n ≢ m → parent_of (with_node (with_parent o) nodes n) m ≡ parent_of nodes m
+pub parent_other : (o : Option ℕ) (nodes : List Node) (n m : ℕ) → n ≢ m → parent_of (with_node (with_parent o) nodes n) m ≡ parent_of nodes m
 parent_other o nodes n m ne = ap parent_in (at_other (with_parent o) nodes n m ne)
 
 -- ---- a node that has left its parent
@@ -317,7 +315,7 @@ alone_family nodes after c gone child =
       parents = λ m ne. parent_other None after c m ne;
     })
 
--- ---- what holds at each moment
+-- ---- no node more, and none fewer
 
 pub length_left : (nodes : List Node) (c : ℕ) → length (left nodes c) ≡ length nodes
 length_left nodes c = go (parent_of nodes c)
@@ -325,37 +323,3 @@ length_left nodes c = go (parent_of nodes c)
     go : (o : Option ℕ) → length (left_parent o c nodes) ≡ length nodes
     go None = refl
     go (Some q) = length_with (with_children (without c)) nodes q
-
-pub fields_sound : (f : List Field → List Field) (nodes : List Node) (n : ℕ) → IsSound nodes → IsSound (with_node (with_fields f) nodes n)
-fields_sound f nodes n sound =
-    let size : length (with_node (with_fields f) nodes n) ≡ length nodes = length_with (with_fields f) nodes n in
-    let most : length nodes ≤ 1048576 = sound.most in
-    record {
-      family = record { once = λ p m. ap (times m) (read_with children_in (with_fields f) (λ x. refl) nodes n p) ∙ sound.family.once p m ∙ ap (λ o. once_where (is p o)) (sym (read_with parent_in (with_fields f) (λ x. refl) nodes n m)) };
-      most = omega arith;
-    }
-
-pub standing_sound : (place : Place) (nodes : List Node) (n c : ℕ) → IsSound nodes → IsNode nodes n → IsNode nodes c → IsSound (standing place (left nodes c) n c)
-standing_sound place nodes n c sound node child =
-    let left_size : length (left nodes c) ≡ length nodes = length_left nodes c in
-    let put_size : length (with_node (with_children (with_child place c)) (left nodes c) n) ≡ length (left nodes c) = length_with (with_children (with_child place c)) (left nodes c) n in
-    let size : length (standing place (left nodes c) n c) ≡ length (with_node (with_children (with_child place c)) (left nodes c) n) = length_with (with_parent (Some n)) (with_node (with_children (with_child place c)) (left nodes c) n) c in
-    let most : length nodes ≤ 1048576 = sound.most in
-    let n_from : 1 ≤ n = node.from in
-    let n_to : n ≤ length nodes = node.to in
-    let c_from : 1 ≤ c = child.from in
-    let c_to : c ≤ length nodes = child.to in
-    record {
-      family = standing_family place nodes (left nodes c) n c (left_is nodes sound.family c) (record { from = n_from; to = omega arith }) (record { from = c_from; to = omega arith });
-      most = omega arith;
-    }
-
-pub removed_sound : (nodes : List Node) (n c : ℕ) → IsSound nodes → has c (children_of nodes n) ≡ true → IsSound (with_node (with_parent None) (with_node (with_children (without c)) nodes n) c)
-removed_sound nodes n c sound h =
-    let size : length (with_node (with_children (without c)) nodes n) ≡ length nodes = length_with (with_children (without c)) nodes n in
-    let more : length (with_node (with_parent None) (with_node (with_children (without c)) nodes n) c) ≡ length (with_node (with_children (without c)) nodes n) = length_with (with_parent None) (with_node (with_children (without c)) nodes n) c in
-    let most : length nodes ≤ 1048576 = sound.most in
-    record {
-      family = alone_family nodes (with_node (with_children (without c)) nodes n) c (taken_left nodes sound.family c n (child_has_parent nodes sound.family n c h)) (still_node (with_children (without c)) nodes n c (child_is_node nodes sound.family n c h));
-      most = omega arith;
-    }

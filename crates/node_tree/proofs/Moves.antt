@@ -1,5 +1,5 @@
 -- A child that leaves its parent and takes its place among the children of a node, in either order.
-use Rattle.std.proofs.Common.{◌≡◌, ◌≢◌, ℕ, ◌≤◌, Bool, true, false, List, Option, Some, None, length, refl, sym, ap, subst, ◌∙◌, arith}
+use Rattle.std.proofs.Common.{◌≡◌, ◌≢◌, ℕ, ◌≤◌, List, Some, None, length, sym, ap, ◌∙◌, arith}
 use Rattle.node_tree.specs.declared.node.Node.{Node}
 use Rattle.node_tree.specs.declared.children.Place.{Place}
 use Rattle.node_tree.specs.Nodes.{IsNode, parent_of, with_node, with_children}

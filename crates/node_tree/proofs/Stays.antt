@@ -24,7 +24,7 @@ module _ {B : Type 0} (r : Option Node → B) (keeps : (f : List Field → List 
 
 -- ---- what a change of children leaves
 
-owner_left : (nodes : List Node) (c i : ℕ) → owner_of (left nodes c) i ≡ owner_of nodes i
+pub owner_left : (nodes : List Node) (c i : ℕ) → owner_of (left nodes c) i ≡ owner_of nodes i
 owner_left nodes c i = go (parent_of nodes c)
   where
     go : (o : Option ℕ) → owner_of (left_parent o c nodes) i ≡ owner_of nodes i

@@ -100,7 +100,17 @@ times n (k ∷ ks) = once_where (k == n) + times n ks
 pub record IsFamily (nodes : List Node) : Type 0 where
   pub once : (p n : ℕ) → times n (children_of nodes p) ≡ once_where (is p (parent_of nodes n))
 
+-- a way leads up from a node to one without a parent
+pub data Rooted (nodes : List Node) : ℕ → Type 0 where
+  top : {n : ℕ} → parent_of nodes n ≡ None → Rooted nodes n
+  below : {n p : ℕ} → parent_of nodes n ≡ Some p → Rooted nodes p → Rooted nodes n
+
+-- no node is its own ancestor
+abbrev pub IsTree : List Node → Type 0
+IsTree nodes = (n p : ℕ) → parent_of nodes n ≡ Some p → has n (ancestry nodes p) ≡ false
+
 -- what holds of the nodes at each moment
 pub record IsSound (nodes : List Node) : Type 0 where
   pub family : IsFamily nodes
+  pub rooted : (n : ℕ) → Rooted nodes n
   pub most : length nodes ≤ 1048576

@@ -1,5 +1,5 @@
 -- Fields of nodes: how they are found by their names, and what a set and an addition do.
-use Rattle.std.specs.Prelude.{ℕ, Bool, true, false, not, ◌||◌, List, [], ◌∷◌, ◌++◌, Option, Some, None, find, is_some, option_map, slice_get, if◌then◌else◌}
+use Rattle.std.specs.Prelude.{ℕ, Bool, not, ◌||◌, List, [], ◌∷◌, ◌++◌, Option, Some, None, find, is_some, option_map, slice_get, if◌then◌else◌}
 use Rattle.chan_values.specs.Tree.{Tree}
 use Rattle.chan_values.specs.Folded.{folded}
 use Rattle.field_types.specs.declared.types.FieldType.{FieldType}

@@ -7,4 +7,6 @@ pub mod Subtree
 pub mod Making
 pub mod Reach
 pub mod Owned
+pub mod Visited
+pub mod Closed
 pub mod Pending

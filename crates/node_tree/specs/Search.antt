@@ -1,5 +1,5 @@
 -- The descendants of a node in preorder, and the first of them with an id.
-use Rattle.std.specs.Prelude.{ℕ, zero, suc, Bool, true, false, List, [], ◌∷◌, Option, Some, None, find, length, codes}
+use Rattle.std.specs.Prelude.{ℕ, zero, suc, Bool, false, List, [], ◌∷◌, Option, Some, find, length, codes}
 use Rattle.std.specs.List.{flat_map}
 use Rattle.std.specs.Str.{bytes_eq}
 use Rattle.chan_values.specs.Tree.{Tree, Leaf, Words}

@@ -1,5 +1,5 @@
 -- What one making makes: a node with its descendants, before they have numbers.
-use Rattle.std.specs.Prelude.{ℕ, zero, suc, ◌+◌, List, [], ◌∷◌}
+use Rattle.std.specs.Prelude.{ℕ, suc, ◌+◌, List}
 use Rattle.field_types.specs.declared.plans.AttributeValue.{AttributeValue}
 use Rattle.field_types.specs.Elements.{Element, element, Elements, none as no_element, more as more_elements}
 

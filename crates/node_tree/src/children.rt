@@ -1,5 +1,5 @@
 //! The children of a node.
-ghost use Rattle.std.specs.Prelude.{◌≡◌, ◌==◌, [], position, OnOk, OnErr, IsTrue};
+ghost use Rattle.std.specs.Prelude.{◌≡◌, ◌==◌, [], ◌∷◌, ◌++◌, position, OnOk, OnErr, IsTrue};
 ghost use Rattle.node_tree.specs.Family.{has, without, place_in, with_child};
 
 use chan_values::NoMemory;
@@ -73,6 +73,17 @@ impl ChildList {
     {
         if let Some(at) = self.place_of(child) {
             self.items.remove(at);
+        }
+    }
+
+    /// Adds a number at the end. After an `Err` nothing has changed.
+    pub fn push(&mut self, child: u32) -> Result<(), NoMemory>
+        ensures ok { OnOk result (self.new ≡ self.old ++ child ∷ []) }
+        ensures err { OnErr result (self.new ≡ self.old) }
+    {
+        match self.items.push(child) {
+            Ok(()) => Ok(()),
+            Err(_) => Err(NoMemory),
         }
     }
 

@@ -1,7 +1,8 @@
 //! Parents and children: how a node gets another parent.
-ghost use Rattle.std.specs.Prelude.{◌≡◌, Some, IfOk, OnOk, OnErr, IsTrue};
+ghost use Rattle.std.specs.Prelude.{◌≡◌, ◌&&◌, false, Some, IfOk, OnOk, OnErr, IsTrue};
+ghost use Rattle.node_tree.specs.Closed.{are_alike};
 ghost use Rattle.node_tree.specs.Nodes.{IsNode, children_of, parent_of, with_node, with_children, with_parent};
-ghost use Rattle.node_tree.specs.Family.{has, without, with_child, ancestry, left, standing, can_stand, appended, can_insert, inserted, is_child, removed, IsSound};
+ghost use Rattle.node_tree.specs.Family.{has, without, with_child, ancestry, left, standing, can_stand, moved, appended, can_insert, inserted, is_child, removed, IsSound};
 
 use crate::children::Place;
 use crate::node::Node;
@@ -69,6 +70,20 @@ fn set_parent(nodes: &mut Vec<Node>, node: u32, parent: Option<u32>)
     nodes[node as usize - 1].parent = parent;
 }
 
+/// Whether both owners are render, or neither.
+fn are_alike(one: u32, other: u32) -> bool
+    ensures { result ≡ are_alike one other }
+{
+    if one == 0 { other == 0 } else { other != 0 }
+}
+
+/// Whether links from nodes of render are known to lead to nodes of render alone, once nodes of these owners are parent and child.
+fn stays_closed(closed: bool, one: u32, other: u32) -> bool
+    ensures { result ≡ (closed && are_alike one other) }
+{
+    closed && are_alike(one, other)
+}
+
 impl Nodes {
     /// Whether a node is another or one of its ancestors.
     fn is_above(&self, above: u32, node: u32) -> bool
@@ -90,13 +105,32 @@ impl Nodes {
     fn stand(&mut self, place: Place, node: u32, child: u32) -> Result<(), NoMemory>
         requires node { IsNode self.old node }
         requires child { IsNode self.old child }
+        requires clear { has child (ancestry self.old node) ≡ false }
         ensures ok { OnOk result (self.new ≡ standing place (left self.old child) node child) }
         ensures err { OnErr result (self.new ≡ self.old) }
     {
         let parent = self.parent(child);
+        let closed = stays_closed(self.closed, self.owner(node), self.owner(child));
         change_children(&mut self.nodes, place, parent, node, child)?;
         set_parent(&mut self.nodes, child, Some(node));
+        self.closed = closed;
         Ok(())
+    }
+
+    /// Makes a node the child of another at a place, and answers whether it did: false exactly where the child is that node or one
+    /// of its ancestors. The child first leaves its parent. After an `Err` nothing has changed.
+    fn place_child(&mut self, place: Place, node: u32, child: u32) -> Result<bool, NoMemory>
+        requires node { IsNode self.old node }
+        requires child { IsNode self.old child }
+        ensures answer { IfOk result (λ done. done ≡ can_stand self.old node child) }
+        ensures after { OnOk result (self.new ≡ moved place self.old node child) }
+        ensures err { OnErr result (self.new ≡ self.old) }
+    {
+        if self.is_above(child, node) {
+            return Ok(false);
+        }
+        self.stand(place, node, child)?;
+        Ok(true)
     }
 
     /// Makes a node the last child of another, and answers whether it did: false exactly where the child is that node or one of
@@ -110,11 +144,7 @@ impl Nodes {
         ensures after { OnOk result (self.new ≡ appended self.old node child) }
         ensures err { OnErr result (self.new ≡ self.old) }
     {
-        if self.is_above(child, node) {
-            return Ok(false);
-        }
-        self.stand(Place::Last, node, child)?;
-        Ok(true)
+        self.place_child(Place::Last, node, child)
     }
 
     /// Makes a node the child of another at a place, counted from 0 once the child has left its parent, or last where there are fewer
@@ -132,11 +162,7 @@ impl Nodes {
         let Ok(at) = usize::try_from(at) else {
             return Ok(false);
         };
-        if self.is_above(child, node) {
-            return Ok(false);
-        }
-        self.stand(Place::At(at), node, child)?;
-        Ok(true)
+        self.place_child(Place::At(at), node, child)
     }
 
     /// Takes a child from a node, and answers whether it did: false exactly where it is no child of that node. Takes no memory.

@@ -6,6 +6,7 @@ ghost use Rattle.node_tree.specs.Nodes.{IsNode};
 ghost use Rattle.node_tree.specs.Fields.{value_of, field_of, has_field, set_answer, after_set, after_add, Line, line_at};
 
 use crate::answers::{FieldLine, SetResult};
+use crate::closed::stays_closed;
 use crate::field::Field;
 use crate::held::Held;
 use crate::nodes::Nodes;
@@ -51,9 +52,17 @@ impl Nodes {
         if !old.always && old.value.is(&value) {
             return Ok(SetResult::Same);
         }
+        let closed = stays_closed(
+            self.alloc,
+            self.nodes.as_slice(),
+            self.closed,
+            self.owner(node),
+            &value,
+        )?;
         self.nodes[node as usize - 1]
             .fields
             .set(field, Held::new(value));
+        self.closed = closed;
         Ok(SetResult::Changed)
     }
 

@@ -1,16 +1,17 @@
-//! Nodes that are made.
-ghost use Rattle.std.specs.Prelude.{◌≡◌, ◌↔◌, ◌<◌, [], ◌∷◌, ◌++◌, length, map, reverse, slice_get, Some, Err, IfOk, OnOk, OnErr};
-ghost use Rattle.node_tree.specs.Making.{opening_field, base_in, own_fields, lineage, kind_fields, new_node};
+//! New nodes, and the fields that they begin with.
+ghost use Rattle.std.specs.Prelude.{◌≡◌, [], ◌++◌, length, map, reverse, slice_get, Some, IfOk, OnOk};
+ghost use Rattle.chan_values.specs.View.{tree_of};
+ghost use Rattle.field_types.specs.Plans.{IsPlanTable};
+ghost use Rattle.node_tree.specs.Fields.{with_value};
+ghost use Rattle.node_tree.specs.Making.{opening_field, base_in, kind_in, own_fields, lineage, kind_fields, with_attributes, made_node};
 
-use crate::answers::MakeFault;
 use crate::children::ChildList;
 use crate::field::Field;
 use crate::field_list::FieldList;
 use crate::held::Held;
 use crate::node::Node;
-use crate::nodes::{MAX_NODES, Nodes};
-use chan_values::{NoMemory, copy_portable, copy_text, fold_name};
-use field_types::{FieldPlan, KindPlan, PlanTable};
+use chan_values::{NoMemory, Text, copy_portable, copy_text, fold_name};
+use field_types::{AttributeValue, FieldPlan, KindPlan, PlanTable};
 use std::alloc::Global;
 
 /// A field as a new node has it.
@@ -90,58 +91,63 @@ fn push_fields_at(
     }
 }
 
-fn new_node(alloc: Global, plans: &PlanTable, place: u32, owner: u32) -> Result<Node, NoMemory>
-    requires { place < length plans.now }
-    ensures { IfOk result (λ node. node ≡ new_node plans.now place owner) }
+/// The field that an attribute names holds what the attribute says. After an `Err` the fields are as they were.
+fn set_attribute(
+    alloc: Global,
+    fields: &mut FieldList,
+    attribute: &AttributeValue,
+) -> Result<(), NoMemory>
+    ensures { OnOk result (fields.new ≡ with_value attribute.now.field (tree_of attribute.now.value) fields.old) }
 {
-    let Some(plan) = plans.get(place as usize) else {
-        unreachable!()
-    };
-    Ok(Node {
-        kind: copy_text(alloc, &plan.kind)?,
-        owner,
-        parent: None,
-        children: ChildList::new(alloc),
-        fields: kind_fields(alloc, plans, place)?,
-    })
+    let value = copy_portable(alloc, &attribute.value)?;
+    fields.set(attribute.field.as_str().as_bytes(), Held::new(value));
+    Ok(())
 }
 
-impl Nodes {
-    /// The nodes of a run that begins: node 1, the global node, of the kind Node, which belongs to render.
-    ///
-    /// Source: SceneGraph Reference, "roSGScreen", "getGlobalNode".
-    pub fn new(alloc: Global, plans: &PlanTable) -> Result<Nodes, NoMemory>
-        requires { 0 < length plans.now }
-        ensures { IfOk result (λ nodes. nodes ≡ new_node plans.now 0 0 ∷ []) }
-    {
-        let mut nodes = Vec::new(alloc);
-        match nodes.push(new_node(alloc, plans, 0, 0)?) {
-            Ok(()) => Ok(Nodes { alloc, nodes }),
-            Err(_) => Err(NoMemory),
-        }
+/// The fields that the attributes of a child element name hold what these say.
+fn set_attributes(
+    alloc: Global,
+    fields: &mut FieldList,
+    attributes: &[AttributeValue],
+) -> Result<(), NoMemory>
+    ensures { OnOk result (fields.new ≡ with_attributes attributes.now fields.old) }
+{
+    for attribute in attributes {
+        set_attribute(alloc, fields, attribute)?;
     }
+    Ok(())
+}
 
-    /// Makes one node of a kind, without the nodes of the kind's child elements, and answers its number. `TooManyNodes` comes exactly where
-    /// `MAX_NODES` are there. After an `Err` nothing has changed.
-    ///
-    /// Source: SceneGraph Reference, "roSGNode".
-    pub fn add_node(&mut self, plans: &PlanTable, place: u32, owner: u32) -> Result<u32, MakeFault>
-        requires { place < length plans.now }
-        ensures ok { OnOk result (self.new ≡ self.old ++ new_node plans.now place owner ∷ []) }
-        ensures number { IfOk result (λ n. n ≡ length self.new) }
-        ensures err { OnErr result (self.new ≡ self.old) }
-        ensures full { result ≡ Err MakeFault.TooManyNodes ↔ (length self.old ≡ 1048576) }
-    {
-        let count = self.count();
-        if count == MAX_NODES {
-            return Err(MakeFault::TooManyNodes);
-        }
-        let Ok(node) = new_node(self.alloc, plans, place, owner) else {
-            return Err(MakeFault::NoMemory);
-        };
-        match self.nodes.push(node) {
-            Ok(()) => Ok(count + 1),
-            Err(_) => Err(MakeFault::NoMemory),
-        }
+fn kind_name(alloc: Global, plans: &PlanTable, place: u32) -> Result<Text, NoMemory>
+    ensures name { IfOk result (λ name. name ≡ kind_in (slice_get plans.now place)) }
+    ensures table { IsPlanTable plans.now }
+{
+    match plans.get(place as usize) {
+        None => Ok(Text::new(alloc)),
+        Some(plan) => copy_text(alloc, &plan.kind),
     }
+}
+
+/// A node of a kind, without children.
+pub fn new_node(
+    alloc: Global,
+    plans: &PlanTable,
+    place: u32,
+    values: &[AttributeValue],
+    owner: u32,
+    parent: Option<u32>,
+) -> Result<Node, NoMemory>
+    ensures node { IfOk result (λ node. node ≡ made_node plans.now owner parent place values.now []) }
+    ensures table { IsPlanTable plans.now }
+{
+    let kind = kind_name(alloc, plans, place)?;
+    let mut fields = kind_fields(alloc, plans, place)?;
+    set_attributes(alloc, &mut fields, values)?;
+    Ok(Node {
+        kind,
+        owner,
+        parent,
+        children: ChildList::new(alloc),
+        fields,
+    })
 }

@@ -2,7 +2,7 @@
 ghost use Rattle.std.specs.Prelude.{◌≡◌, ◌≤◌, length, Some};
 ghost use Rattle.std.specs.Option.{option_copied};
 ghost use Rattle.node_tree.specs.Nodes.{IsNode, node_at, kind_of, owner_of, parent_of, children_of};
-ghost use Rattle.node_tree.specs.Family.{IsFamily, IsSound, child_at};
+ghost use Rattle.node_tree.specs.Family.{IsSound, child_at};
 
 use crate::node::Node;
 use chan_values::Text;
@@ -19,6 +19,8 @@ pub const MAX_NODES: u32 = 1_048_576;
 pub struct Nodes {
     pub(crate) alloc: Global,
     pub(crate) nodes: Vec<Node>,
+    /// Whether links from nodes of render are known to lead to nodes of render alone, so that no search has to go to these.
+    pub(crate) closed: bool,
 }
 
 impl Model for Nodes {
@@ -31,11 +33,11 @@ impl Model for Nodes {
 
     ghost coded = { Prim.hlevel (codes, tree_code) };
 
-    ghost use Rattle.node_tree.specs.Family.{IsSound};
+    ghost use Rattle.node_tree.specs.Closed.{IsKept};
 
     ghost view = { λ t. t.nodes.items };
 
-    ghost invariant = { λ t. IsSound t.nodes.items };
+    ghost invariant = { λ t. IsKept t.nodes.items t.closed };
 }
 
 impl Nodes {
@@ -43,7 +45,7 @@ impl Nodes {
     pub fn count(&self) -> u32
         ensures is { result ≡ length self.now }
         ensures most { result ≤ 1048576 }
-        ensures family { IsFamily self.now }
+        ensures sound { IsSound self.now }
     {
         self.nodes.len() as u32
     }

@@ -5,6 +5,7 @@ ghost use Rattle.node_tree.specs.Nodes.{IsNode, node_at, children_of};
 ghost use Rattle.node_tree.specs.Search.{has_id, found};
 ghost use Rattle.node_tree.specs.Pending.{pending_at};
 
+use crate::closed::node_of;
 use crate::node::Node;
 use crate::nodes::Nodes;
 use chan_values::{NoMemory, Portable};
@@ -20,10 +21,7 @@ impl Nodes {
     fn at(&self, node: u32) -> Option<&Node>
         ensures { option_copied result ≡ node_at self.now node }
     {
-        match node.checked_sub(1) {
-            None => None,
-            Some(place) => self.nodes.get(place as usize),
-        }
+        node_of(self.nodes.as_slice(), node)
     }
 
     /// Whether the id of a node is this one, byte for byte.

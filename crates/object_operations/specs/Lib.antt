@@ -4,6 +4,7 @@ pub mod Arrays
 pub mod Maps
 pub mod Members
 pub mod Messages
+pub mod MethodNames
 pub mod Types
 pub mod Applies
 pub mod Numbers

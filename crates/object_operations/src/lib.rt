@@ -22,5 +22,5 @@ pub use map_methods::call_map_method;
 pub use members::{read_index, read_member, write_index, write_member};
 pub use message_method::MessageMethod;
 pub use methods::call_array_method;
-pub use receiver::{Receiver, receiver_of};
+pub use receiver::{Receiver, receiver_of, refusal};
 pub use types::call_type;

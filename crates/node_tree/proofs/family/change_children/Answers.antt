@@ -1,4 +1,4 @@
-use Rattle.std.proofs.Common.{◌≡◌, true, Some, sym, ap, subst, ◌∙◌}
+use Rattle.std.proofs.Common.{◌≡◌, true, sym, subst, ◌∙◌}
 use Rattle.node_tree.specs.Nodes.{IsNode, children_of, with_children}
 use Rattle.node_tree.specs.Family.{has, with_child}
 use Rattle.node_tree.proofs.Places.{still_node}

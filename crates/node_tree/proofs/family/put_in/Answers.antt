@@ -1,4 +1,3 @@
-use Rattle.std.proofs.Common.{◌≡◌}
 use Rattle.std.specs.Prelude.{Result, Ok, Err, OnOk}
 use Rattle.node_tree.specs.Family.{with_child}
 use Rattle.node_tree.proofs.Places.{children_written}

@@ -12,7 +12,7 @@ loop-left-init c = record {
       ∙ ap (upward _ c.args.nodes.now) c.self.view_is
       ∙ whole_upward c.args.nodes.now c.args.self.now;
   node = subst (λ o. ForSome o (IsNode c.args.nodes.now)) (sym c.self.view_is) c.requires;
-  family = c.count-left.ensures.family;
+  family = c.count-left.ensures.sound.family;
 }
 
 pub loop-left-preserved : goal.loop-left-preserved

@@ -1,6 +1,6 @@
 use Rattle.std.proofs.Common.{◌≡◌, sym, ap, ◌∙◌, length, arith}
 use Rattle.std.specs.Prelude.{insert, remove}
-use Rattle.node_tree.specs.Family.{without, place_in, with_child}
+use Rattle.node_tree.specs.Family.{place_in, with_child}
 use Rattle.node_tree.proofs.Firsts.{removed_at, absent}
 use Rattle.node_tree.proofs.children.ChildList.put_again.Goals as goal
 

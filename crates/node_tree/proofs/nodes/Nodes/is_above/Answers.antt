@@ -10,5 +10,5 @@ loop-preserved c = record {
       stays c.len-end.result c.loop.counter c.args.self.now c.args.above c.in-Some.here _ c.loop-test.true (other _ _ c.if-here-above.false) c.parent-next.ensures
       ∙ ap (λ q. has c.args.above (upward (c.len-end.result - c.loop.counter) c.args.self.now q)) (sym c.in-Some.is)
       ∙ c.loop.invariant.same;
-  next = parent_next c.args.self.now (subst IsFamily c.self.view_is c.self.invariant.family) c.in-Some.here _ c.parent-next.ensures;
+  next = parent_next c.args.self.now (subst IsFamily c.self.view_is c.self.invariant.sound.family) c.in-Some.here _ c.parent-next.ensures;
 }

@@ -1,0 +1,10 @@
+pub mod Lookups
+pub mod Walks
+pub mod KindRows
+pub mod RowFaults
+pub mod BuiltIn
+pub mod FieldRepeats
+pub mod Looks
+pub mod Earliest
+pub mod Wrongs
+pub mod RowTexts

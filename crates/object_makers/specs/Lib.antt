@@ -1,0 +1,5 @@
+pub mod Joins
+pub mod KeyLists
+pub mod MessageAnswers
+pub mod MessageData
+pub mod Told
