@@ -6,6 +6,8 @@
 #[cfg(test)]
 mod channels;
 #[cfg(test)]
+mod cycle_tests;
+#[cfg(test)]
 mod field_tests;
 #[cfg(test)]
 mod kind_tests;
