@@ -1,97 +1,208 @@
-//! Worked examples: one call of each family of operations, and names.
-use brs_builtins::{Applied, Operation, Receiver, apply, function_named, method_named};
-use brs_heap::{Heap, Plain, Value};
-use chan_values::{ErrorCode, NoMemory, Text};
-use object_operations::{ArrayMethod, MapMethod};
+//! What operations answer by their one table: operators, functions and methods of plain values, the names of types, and
+//! the names of operations.
+use crate::rows::check;
+use brs_builtins::{Operation, Receiver, function_named, method_named};
+use object_operations::{ArrayMethod, MapMethod, MessageMethod};
 use plain_operations::{Operator, PlainFunction, PlainMethod, UnaryOperator};
-use std::alloc::Global;
-
-fn small(n: i32) -> Value {
-    Value::plain(Plain::Small(n))
-}
-
-/// An Integer is itself, `invalid` -1, a Boolean 200 or 201, another value 300, an error 400 and more.
-fn code_of(heap: &Heap, answer: Result<Applied, NoMemory>) -> i32 {
-    match answer {
-        Err(NoMemory) => -2,
-        Ok(Applied::Raised(ErrorCode::E2)) => 402,
-        Ok(Applied::Raised(ErrorCode::E4)) => 404,
-        Ok(Applied::Raised(ErrorCode::E6)) => 406,
-        Ok(Applied::Raised(ErrorCode::E7)) => 407,
-        Ok(Applied::Raised(_)) => 400,
-        Ok(Applied::Value(v)) => match heap.plain(&v) {
-            Some(Plain::Small(n)) => n,
-            Some(Plain::Invalid) => -1,
-            Some(Plain::Truth(b)) => 200 + i32::from(b),
-            _ => 300,
-        },
-    }
-}
-
-/// What an operation answers for plain values.
-fn answer(alloc: Global, operation: Operation, arguments: &[Value]) -> i32 {
-    let mut heap = Heap::new(alloc);
-    let answer = apply(alloc, &mut heap, operation, arguments);
-    code_of(&heap, answer)
-}
-
-/// What an operation answers for a text and a value, or for the text alone.
-fn answer_for_text(alloc: Global, operation: Operation, t: &str, other: Option<Value>) -> i32 {
-    let mut heap = Heap::new(alloc);
-    let mut text = Text::new(alloc);
-    if text.push_str(t).is_err() {
-        return -2;
-    }
-    let Ok(first) = heap.make_text(text) else {
-        return -2;
-    };
-    let answer = match other {
-        None => apply(alloc, &mut heap, operation, &[first]),
-        Some(v) => apply(alloc, &mut heap, operation, &[first, v]),
-    };
-    code_of(&heap, answer)
-}
+use std::test::Fail;
 
 #[test]
-fn operations_answer_by_the_table(rt: HostRuntime) {
+fn operators_take_values_of_a_heap(rt: HostRuntime) -> Result<(), Fail> {
     let alloc = rt.alloc();
-    let subtract = Operation::Operator(Operator::Subtract);
-    assert_eq!(rt; answer(alloc, subtract, &[small(5), small(8)]), -3);
-    assert_eq!(rt; answer(alloc, subtract, &[small(5)]), 406);
-    assert_eq!(rt; answer_for_text(alloc, subtract, "5", Some(small(7))), 402);
-    let not = Operation::UnaryOperator(UnaryOperator::Not);
-    assert_eq!(rt;
-        answer(alloc, not, &[Value::plain(Plain::Truth(true))]),
-        200
-    );
-    let length = Operation::Function(PlainFunction::Len);
-    assert_eq!(rt; answer_for_text(alloc, length, "né", None), 2);
-    let number = Operation::PlainMethod(PlainMethod::ToInt);
-    assert_eq!(rt; answer_for_text(alloc, number, " -12x", None), -12);
-    assert_eq!(rt; answer(alloc, number, &[small(5)]), 404);
-    assert_eq!(rt; answer(alloc, Operation::TypeName, &[small(5)]), 300);
-    assert_eq!(rt;
-        answer(alloc, Operation::ReadIndex, &[small(5), small(0)]),
-        402
-    );
-    let pop = Operation::ArrayMethod(ArrayMethod::Pop);
-    assert_eq!(rt; answer(alloc, pop, &[Value::plain(Plain::Invalid)]), 407);
-    let count = Operation::MapMethod(MapMethod::Count);
-    assert_eq!(rt; answer(alloc, count, &[small(5)]), 404);
+    check(
+        &rt,
+        alloc,
+        Operation::Operator(Operator::Subtract),
+        &[
+            "5|8 = -3",
+            "5|7& = -2&",
+            "-2147483648|1 = 2147483647",
+            "'5|7 = E2",
+            "5|'7 = E2",
+            "[]|{} = E2",
+            "message|1 = E2",
+            "5 = E6",
+            "5|7|9 = E6",
+            " = E6",
+        ],
+    )?;
+    check(
+        &rt,
+        alloc,
+        Operation::Operator(Operator::Add),
+        &[
+            "'ab|'cd = 'abcd",
+            "'ab|same = 'abab",
+            "'ab|1 = E2",
+            "node|1 = E2",
+            "port|port = E2",
+        ],
+    )?;
+    check(
+        &rt,
+        alloc,
+        Operation::Operator(Operator::Divide),
+        &["-7|2 = -3", "1|0 = E3", "'a|0 = E2", "1|0|0 = E6"],
+    )?;
+    check(
+        &rt,
+        alloc,
+        Operation::Operator(Operator::Equal),
+        &[
+            "invalid|invalid = true",
+            "invalid|[] = false",
+            "{}|invalid = false",
+            "function|invalid = false",
+            "message|invalid = false",
+            "'a|'a = true",
+            "[]|same = E2",
+            "node|node = E2",
+        ],
+    )?;
+    check(
+        &rt,
+        alloc,
+        Operation::UnaryOperator(UnaryOperator::Not),
+        &[
+            "true = false",
+            "0 = -1",
+            "'a = E2",
+            "[] = E2",
+            " = E6",
+            "1|2 = E6",
+        ],
+    )
 }
 
 #[test]
-fn names_lead_to_operations(rt: HostRuntime) {
-    let mid = Operation::Function(PlainFunction::Mid);
-    assert_eq!(rt; function_named(b"mid"), Some(mid));
-    assert_eq!(rt; function_named(b"type"), Some(Operation::TypeName));
-    assert_eq!(rt; function_named(b"wait"), None);
-    let items = Operation::ArrayMethod(ArrayMethod::Count);
-    assert_eq!(rt; method_named(Receiver::Array, b"count"), Some(items));
+fn functions_and_methods_take_values_of_a_heap(rt: HostRuntime) -> Result<(), Fail> {
+    let alloc = rt.alloc();
+    check(
+        &rt,
+        alloc,
+        Operation::Function(PlainFunction::Mid),
+        &[
+            "'banana|2|3 = 'ana",
+            "'banana|3& = 'nana",
+            "'banana|'2 = E2",
+            "[]|2 = E2",
+            "'banana = E6",
+            " = E6",
+        ],
+    )?;
+    check(
+        &rt,
+        alloc,
+        Operation::Function(PlainFunction::Instr),
+        &["3|'banana|'an = 4", "[]|'banana|'an = E2"],
+    )?;
+    check(
+        &rt,
+        alloc,
+        Operation::Function(PlainFunction::Left),
+        &["'abc|-1 = '", "'abc|2 = 'ab", "{}|1 = E2"],
+    )?;
+    check(
+        &rt,
+        alloc,
+        Operation::Function(PlainFunction::Len),
+        &["'né = 2", "screen = E2"],
+    )?;
+    check(
+        &rt,
+        alloc,
+        Operation::Function(PlainFunction::StrToI),
+        &["' -12x = -12", "invalid = E2"],
+    )?;
+    check(
+        &rt,
+        alloc,
+        Operation::PlainMethod(PlainMethod::ToStr),
+        &[
+            "-7 = '-7",
+            "7& = '7",
+            "true = 'true",
+            "invalid = E7",
+            "invalid|1 = E7",
+            "[] = E4",
+            "[]|1 = E4",
+            "node = E4",
+            "'a|'b = E6",
+            " = E6",
+        ],
+    )?;
+    check(
+        &rt,
+        alloc,
+        Operation::PlainMethod(PlainMethod::ToInt),
+        &["' -12x = -12", "5 = E4", "5|1 = E4", "'5|1 = E6"],
+    )
+}
+
+#[test]
+fn each_kind_of_value_has_the_name_of_its_type(rt: HostRuntime) -> Result<(), Fail> {
+    check(
+        &rt,
+        rt.alloc(),
+        Operation::TypeName,
+        &[
+            "invalid = 'Invalid",
+            "true = 'Boolean",
+            "1 = 'Integer",
+            "1& = 'LongInteger",
+            "' = 'String",
+            "[] = 'roArray",
+            "{} = 'roAssociativeArray",
+            "function = 'Function",
+            "node = 'roSGNode",
+            "port = 'roMessagePort",
+            "message = 'roSGNodeEvent",
+            "screen = 'roSGScreen",
+            " = E6",
+            "1|1 = E6",
+        ],
+    )
+}
+
+#[test]
+fn names_lead_to_functions(rt: HostRuntime) {
+    let rows: [(&[u8], Option<Operation>); 6] = [
+        (b"mid", Some(Operation::Function(PlainFunction::Mid))),
+        (b"type", Some(Operation::TypeName)),
+        (b"createobject", Some(Operation::CreateObject)),
+        (b"wait", None),
+        (b"Mid", None),
+        (b"", None),
+    ];
+    for (name, operation) in rows {
+        assert_eq!(rt; function_named(name), operation);
+    }
+}
+
+#[test]
+fn names_lead_to_methods(rt: HostRuntime) {
+    let count = Operation::ArrayMethod(ArrayMethod::Count);
     let keys = Operation::MapMethod(MapMethod::Count);
-    assert_eq!(rt; method_named(Receiver::Pairs, b"count"), Some(keys));
-    assert_eq!(rt; method_named(Receiver::Array, b"lookup"), None);
+    let id = Operation::MessageMethod(MessageMethod::Id);
     let length = Operation::PlainMethod(PlainMethod::Len);
-    assert_eq!(rt; method_named(Receiver::Other, b"len"), Some(length));
-    assert_eq!(rt; method_named(Receiver::Invalid, b"len"), None);
+    let append = Operation::ArrayMethod(ArrayMethod::Append);
+    let rows: [(Receiver, &[u8], Option<Operation>); 14] = [
+        (Receiver::Array, b"count", Some(count)),
+        (Receiver::Array, b"append", Some(append)),
+        (Receiver::Array, b"keys", None),
+        (Receiver::Array, b"lookup", None),
+        (Receiver::Pairs, b"count", Some(keys)),
+        (Receiver::Pairs, b"keys", Some(Operation::Keys)),
+        (Receiver::Pairs, b"append", Some(Operation::AppendEntries)),
+        (Receiver::Pairs, b"push", None),
+        (Receiver::Message, b"getnode", Some(id)),
+        (Receiver::Message, b"getdata", Some(Operation::MessageData)),
+        (Receiver::Message, b"count", None),
+        (Receiver::Other, b"len", Some(length)),
+        (Receiver::Other, b"getdata", None),
+        (Receiver::Invalid, b"len", None),
+    ];
+    for (receiver, name, operation) in rows {
+        assert_eq!(rt; method_named(receiver, name), operation);
+    }
 }

@@ -4,6 +4,8 @@
 #![tactic(auto)]
 
 #[cfg(test)]
+mod bound_tests;
+#[cfg(test)]
 mod builtin_tests;
 #[cfg(test)]
 mod function_tests;
@@ -13,3 +15,5 @@ mod object_tests;
 mod operator_tests;
 #[cfg(test)]
 mod plain_tests;
+#[cfg(test)]
+mod rows;

@@ -1,192 +1,379 @@
-//! Worked examples: what methods, reads and writes answer, and what they leave.
-ghost use Rattle.std.specs.Prelude.{◌≡◌, ◌+◌, ◌^◌, ◌<◌, ◌≤◌};
-
-use brs_heap::{Heap, Plain, Value};
-use chan_values::{ErrorCode, NoMemory, Text};
-use object_operations::{
-    Applied, ArrayMethod, MapMethod, call_array_method, call_map_method, call_type, read_index,
-    write_index,
-};
-use std::alloc::Global;
+//! What operations on arrays, associative arrays and messages answer, and what they leave.
+use crate::rows::check;
+use brs_builtins::Operation;
+use object_operations::{ArrayMethod, MapMethod, MessageMethod};
 use std::test::Fail;
 
-fn small(n: i32) -> Value {
-    Value::plain(Plain::Small(n))
-}
-
-/// An Integer is itself, `invalid` -1, a Boolean 200 or 201, another value 300, an error 400 and more.
-fn code_of(heap: &Heap, answer: Result<Applied, NoMemory>) -> i32 {
-    match answer {
-        Err(NoMemory) => -2,
-        Ok(Applied::Raised(ErrorCode::E2)) => 402,
-        Ok(Applied::Raised(ErrorCode::E4)) => 404,
-        Ok(Applied::Raised(ErrorCode::E6)) => 406,
-        Ok(Applied::Raised(ErrorCode::E7)) => 407,
-        Ok(Applied::Raised(ErrorCode::E12)) => 412,
-        Ok(Applied::Raised(_)) => 400,
-        Ok(Applied::Value(v)) => match heap.plain(&v) {
-            Some(Plain::Small(n)) => n,
-            Some(Plain::Invalid) => -1,
-            Some(Plain::Truth(b)) => 200 + i32::from(b),
-            _ => 300,
-        },
-    }
-}
-
-fn bare(heap: &mut Heap, method: ArrayMethod, array: &Value) -> i32
-    requires { 2 ^ 20 < heap.old.shares }
-    ensures { heap.old.shares ≤ heap.new.shares + 2 ^ 20 + 1 }
-{
-    let arguments = [heap.share(array)];
-    let answer = call_array_method(heap, method, &arguments);
-    code_of(heap, answer)
-}
-
-fn with(heap: &mut Heap, method: ArrayMethod, array: &Value, v: &Value) -> i32
-    requires { 2 ^ 20 + 1 < heap.old.shares }
-    ensures { heap.old.shares ≤ heap.new.shares + 2 ^ 20 + 2 }
-{
-    let receiver = heap.share(array);
-    let arguments = [receiver, heap.share(v)];
-    let answer = call_array_method(heap, method, &arguments);
-    code_of(heap, answer)
-}
-
-fn index(alloc: Global, heap: &mut Heap, x: &Value, i: i32) -> i32
-    requires { 1 < heap.old.shares }
-    ensures { heap.old.shares ≤ heap.new.shares + 2 }
-{
-    let arguments = [heap.share(x), small(i)];
-    let answer = read_index(alloc, heap, &arguments);
-    code_of(heap, answer)
-}
-
-fn write(alloc: Global, heap: &mut Heap, x: &Value, i: i32, v: i32) -> i32
-    requires { 1 < heap.old.shares }
-    ensures { heap.old.shares ≤ heap.new.shares + 2 }
-{
-    let arguments = [heap.share(x), small(i), small(v)];
-    let answer = write_index(alloc, heap, &arguments);
-    code_of(heap, answer)
+#[test]
+fn items_are_put_in_and_taken_out(rt: HostRuntime) -> Result<(), Fail> {
+    let alloc = rt.alloc();
+    check(
+        &rt,
+        alloc,
+        Operation::ArrayMethod(ArrayMethod::Push),
+        &[
+            "[]|1 = invalid > [1]",
+            "[1]|'a = invalid > [1, \"a\"]",
+            "[1]|[2] = invalid > [1, [2]]",
+            "[1] = E6 > [1]",
+            "[1]|2|3 = E6 > [1]",
+            "{}|1 = E4",
+            "{} = E4",
+            "invalid = E7",
+            " = E6",
+        ],
+    )?;
+    check(
+        &rt,
+        alloc,
+        Operation::ArrayMethod(ArrayMethod::Unshift),
+        &[
+            "[1]|2 = invalid > [2, 1]",
+            "[]|invalid = invalid > [invalid]",
+            "[1] = E6 > [1]",
+            "'a|1 = E4",
+        ],
+    )?;
+    check(
+        &rt,
+        alloc,
+        Operation::ArrayMethod(ArrayMethod::Pop),
+        &[
+            "[1 2 3] = 3 > [1, 2]",
+            "['a] = 'a > []",
+            "[] = invalid > []",
+            "[1]|1 = E6 > [1]",
+            "5|1 = E4",
+            "invalid|1 = E7",
+        ],
+    )?;
+    check(
+        &rt,
+        alloc,
+        Operation::ArrayMethod(ArrayMethod::Shift),
+        &[
+            "[1 2 3] = 1 > [2, 3]",
+            "[] = invalid > []",
+            "[1]|1 = E6 > [1]",
+        ],
+    )?;
+    check(
+        &rt,
+        alloc,
+        Operation::ArrayMethod(ArrayMethod::Peek),
+        &[
+            "[1 2 3] = 3 > [1, 2, 3]",
+            "[] = invalid > []",
+            "message = E4",
+        ],
+    )
 }
 
 #[test]
-fn arrays_answer_by_their_rows(rt: HostRuntime) -> Result<(), Fail> {
-    let mut heap = Heap::new(rt.alloc());
-    let array = heap.make_array()?;
-    assert_eq!(rt; bare(&mut heap, ArrayMethod::Pop, &array), -1);
-    assert_eq!(rt; with(&mut heap, ArrayMethod::Push, &array, &small(1)), -1);
-    assert_eq!(rt;
-        with(&mut heap, ArrayMethod::Unshift, &array, &small(2)),
-        -1
-    );
-    assert_eq!(rt; index(rt.alloc(), &mut heap, &array, 0), 2);
-    assert_eq!(rt; index(rt.alloc(), &mut heap, &array, 1), 1);
-    assert_eq!(rt; with(&mut heap, ArrayMethod::Append, &array, &array), -1);
-    assert_eq!(rt; bare(&mut heap, ArrayMethod::Count, &array), 4);
-    assert_eq!(rt;
-        with(&mut heap, ArrayMethod::Delete, &array, &small(4)),
-        200
-    );
-    assert_eq!(rt;
-        with(&mut heap, ArrayMethod::Delete, &array, &small(1)),
-        201
-    );
-    assert_eq!(rt;
-        with(&mut heap, ArrayMethod::Append, &array, &small(1)),
-        402
-    );
-    assert_eq!(rt; bare(&mut heap, ArrayMethod::Push, &array), 406);
-    assert_eq!(rt; bare(&mut heap, ArrayMethod::Count, &small(1)), 404);
-    assert_eq!(rt;
-        bare(&mut heap, ArrayMethod::Push, &Value::plain(Plain::Invalid)),
-        407
-    );
-    Ok(())
-}
-
-#[test]
-fn writes_go_up_to_the_longest_array(rt: HostRuntime) -> Result<(), Fail> {
-    let mut heap = Heap::new(rt.alloc());
-    let array = heap.make_array()?;
-    assert_eq!(rt; write(rt.alloc(), &mut heap, &array, 2, 7), -1);
-    assert_eq!(rt; index(rt.alloc(), &mut heap, &array, 1), -1);
-    assert_eq!(rt; index(rt.alloc(), &mut heap, &array, 3), -1);
-    assert_eq!(rt; write(rt.alloc(), &mut heap, &array, -1, 7), 402);
-    assert_eq!(rt; write(rt.alloc(), &mut heap, &array, 1_048_576, 7), 412);
-    assert_eq!(rt; write(rt.alloc(), &mut heap, &array, 1_048_575, 7), -1);
-    assert_eq!(rt; with(&mut heap, ArrayMethod::Push, &array, &small(1)), 412);
-    assert_eq!(rt; bare(&mut heap, ArrayMethod::Clear, &array), -1);
-    assert_eq!(rt; bare(&mut heap, ArrayMethod::Count, &array), 0);
-    Ok(())
-}
-
-fn text_value(alloc: Global, heap: &mut Heap, t: &str) -> Result<Value, NoMemory>
-    ensures { heap.new.shares ≡ heap.old.shares }
-{
-    let mut text = Text::new(alloc);
-    text.push_str(t)?;
-    heap.make_text(text)
-}
-
-fn by_key(alloc: Global, heap: &mut Heap, method: MapMethod, pairs: &Value, key: &str) -> i32
-    requires { 1 < heap.old.shares }
-    ensures { heap.old.shares ≤ heap.new.shares + 2 }
-{
-    let receiver = heap.share(pairs);
-    let Ok(k) = text_value(alloc, heap, key) else {
-        return -2;
-    };
-    let arguments = [receiver, k];
-    let answer = call_map_method(alloc, heap, method, &arguments);
-    code_of(heap, answer)
-}
-
-fn put_key(alloc: Global, heap: &mut Heap, pairs: &Value, key: &str, v: i32) -> i32
-    requires { 1 < heap.old.shares }
-    ensures { heap.old.shares ≤ heap.new.shares + 2 }
-{
-    let receiver = heap.share(pairs);
-    let Ok(k) = text_value(alloc, heap, key) else {
-        return -2;
-    };
-    let arguments = [receiver, k, small(v)];
-    let answer = call_map_method(alloc, heap, MapMethod::AddReplace, &arguments);
-    code_of(heap, answer)
+fn items_are_deleted_and_counted(rt: HostRuntime) -> Result<(), Fail> {
+    let alloc = rt.alloc();
+    check(
+        &rt,
+        alloc,
+        Operation::ArrayMethod(ArrayMethod::Delete),
+        &[
+            "[1 2 3]|1 = true > [1, 3]",
+            "[1 2 3]|0& = true > [2, 3]",
+            "[1 2 3]|2 = true > [1, 2]",
+            "[1 2 3]|3 = false > [1, 2, 3]",
+            "[1 2 3]|-1 = false > [1, 2, 3]",
+            "[1]|9223372036854775807& = false > [1]",
+            "[1]|-9223372036854775808& = false > [1]",
+            "[1]|'0 = E2 > [1]",
+            "[1]|'0|0 = E6 > [1]",
+            "[1] = E6",
+            "{}|'0 = E4",
+        ],
+    )?;
+    check(
+        &rt,
+        alloc,
+        Operation::ArrayMethod(ArrayMethod::Count),
+        &["[1 2] = 2 > [1, 2]", "[] = 0", "[]|1 = E6", "port = E4"],
+    )?;
+    check(
+        &rt,
+        alloc,
+        Operation::ArrayMethod(ArrayMethod::Clear),
+        &[
+            "[1 'a] = invalid > []",
+            "[] = invalid > []",
+            "[1]|1 = E6 > [1]",
+        ],
+    )?;
+    check(
+        &rt,
+        alloc,
+        Operation::ArrayMethod(ArrayMethod::Append),
+        &[
+            "[1]|[2 3] = invalid > [1, 2, 3]",
+            "[1 2]|same = invalid > [1, 2, 1, 2]",
+            "[]|[] = invalid > []",
+            "[1]|{} = E2 > [1]",
+            "[1]|2 = E2 > [1]",
+            "[1]|[2]|[3] = E6 > [1]",
+            "[1] = E6",
+        ],
+    )
 }
 
 #[test]
 fn keys_have_no_case(rt: HostRuntime) -> Result<(), Fail> {
-    let mut heap = Heap::new(rt.alloc());
-    let pairs = heap.make_pairs()?;
-    assert_eq!(rt; put_key(rt.alloc(), &mut heap, &pairs, "Size", 3), -1);
-    assert_eq!(rt; put_key(rt.alloc(), &mut heap, &pairs, "sIZE", 4), -1);
-    assert_eq!(rt;
-        by_key(rt.alloc(), &mut heap, MapMethod::Lookup, &pairs, "SIZE"),
-        4
-    );
-    assert_eq!(rt;
-        by_key(rt.alloc(), &mut heap, MapMethod::DoesExist, &pairs, "siz"),
-        200
-    );
-    assert_eq!(rt;
-        by_key(rt.alloc(), &mut heap, MapMethod::DoesExist, &pairs, "size"),
-        201
-    );
-    assert_eq!(rt;
-        by_key(rt.alloc(), &mut heap, MapMethod::Delete, &pairs, "SiZe"),
-        201
-    );
-    assert_eq!(rt;
-        by_key(rt.alloc(), &mut heap, MapMethod::Delete, &pairs, "size"),
-        200
-    );
-    assert_eq!(rt;
-        by_key(rt.alloc(), &mut heap, MapMethod::Count, &pairs, "size"),
-        406
-    );
-    let arguments = [pairs];
-    let named = call_type(rt.alloc(), &mut heap, &arguments);
-    assert_eq!(rt; code_of(&heap, named), 300);
-    Ok(())
+    let alloc = rt.alloc();
+    check(
+        &rt,
+        alloc,
+        Operation::MapMethod(MapMethod::AddReplace),
+        &[
+            "{}|'Size|3 = invalid > {size: 3}",
+            "{size:3}|'sIZE|4 = invalid > {size: 4}",
+            "{b:2}|'a|1 = invalid > {a: 1, b: 2}",
+            "{b:2}|'c|3 = invalid > {b: 2, c: 3}",
+            "{b:2}|'É|3 = invalid > {b: 2, É: 3}",
+            "{}|'|1 = invalid > {: 1}",
+            "{a:1}|1|1 = E2 > {a: 1}",
+            "{a:1}|'b = E6 > {a: 1}",
+            "{a:1} = E6",
+            "[]|'a|1 = E4",
+            "invalid|'a|1 = E7",
+        ],
+    )?;
+    check(
+        &rt,
+        alloc,
+        Operation::MapMethod(MapMethod::Lookup),
+        &[
+            "{size:3}|'SIZE = 3 > {size: 3}",
+            "{size:3}|'siz = invalid",
+            "{é:3}|'É = invalid",
+            "{size:3}|3 = E2",
+            "{size:3} = E6",
+            "[]|'a = E4",
+        ],
+    )?;
+    check(
+        &rt,
+        alloc,
+        Operation::MapMethod(MapMethod::DoesExist),
+        &[
+            "{size:invalid}|'SIZE = true",
+            "{size:3}|'siz = false",
+            "{}|' = false",
+            "{}|invalid = E2",
+            "{}|'a|'a = E6",
+        ],
+    )?;
+    check(
+        &rt,
+        alloc,
+        Operation::MapMethod(MapMethod::Delete),
+        &[
+            "{a:1 b:2 c:3}|'B = true > {a: 1, c: 3}",
+            "{a:1}|'b = false > {a: 1}",
+            "{a:1}|1 = E2 > {a: 1}",
+            "{a:1} = E6",
+        ],
+    )
+}
+
+#[test]
+fn keys_are_counted_listed_and_appended(rt: HostRuntime) -> Result<(), Fail> {
+    let alloc = rt.alloc();
+    check(
+        &rt,
+        alloc,
+        Operation::MapMethod(MapMethod::Count),
+        &["{a:1 b:2} = 2", "{} = 0", "{}|1 = E6", "[] = E4"],
+    )?;
+    check(
+        &rt,
+        alloc,
+        Operation::MapMethod(MapMethod::Clear),
+        &["{a:1 b:2} = invalid > {}", "{a:1}|1 = E6 > {a: 1}"],
+    )?;
+    check(
+        &rt,
+        alloc,
+        Operation::Keys,
+        &[
+            "{} = []",
+            "{a:1 b:'x c:3} = [\"a\", \"b\", \"c\"] > {a: 1, b: \"x\", c: 3}",
+            "{a:1}|1 = E6",
+            "[] = E4",
+            "[]|1 = E4",
+            "invalid|1 = E7",
+            "node = E4",
+            " = E6",
+        ],
+    )?;
+    check(
+        &rt,
+        alloc,
+        Operation::AppendEntries,
+        &[
+            "{}|{} = invalid > {}",
+            "{a:1 c:3}|{b:2 c:7} = invalid > {a: 1, b: 2, c: 7}",
+            "{a:1 b:2}|same = invalid > {a: 1, b: 2}",
+            "{a:1}|[] = E2 > {a: 1}",
+            "{a:1}|invalid = E2 > {a: 1}",
+            "{a:1} = E6 > {a: 1}",
+            "{a:1}|{b:2}|{c:3} = E6 > {a: 1}",
+            "[]|{} = E4",
+            "[] = E4",
+            "invalid = E7",
+            " = E6",
+        ],
+    )
+}
+
+#[test]
+fn objects_are_made_by_name(rt: HostRuntime) -> Result<(), Fail> {
+    check(
+        &rt,
+        rt.alloc(),
+        Operation::CreateObject,
+        &[
+            "'roArray = []",
+            "'ROARRAY|3|true = []",
+            "'roAssociativeArray = {}",
+            "'ROASSOCIATIVEARRAY = {}",
+            "'roAssociativeArray|1 = E6",
+            "'roDateTime = invalid",
+            "'roDateTime|1|2 = invalid",
+            "' = invalid",
+            "1 = E2",
+            "1|2 = E2",
+            "invalid = E2",
+            "[] = E2",
+            " = E6",
+        ],
+    )
+}
+
+#[test]
+fn messages_tell_their_field_their_node_and_their_data(rt: HostRuntime) -> Result<(), Fail> {
+    let alloc = rt.alloc();
+    check(
+        &rt,
+        alloc,
+        Operation::MessageMethod(MessageMethod::Field),
+        &[
+            "message = 'itemfocused > message",
+            "message|1 = E6",
+            "{} = E4",
+            "{}|1 = E4",
+            "invalid = E7",
+            " = E6",
+        ],
+    )?;
+    check(
+        &rt,
+        alloc,
+        Operation::MessageMethod(MessageMethod::Id),
+        &["message = 'list", "node = E4"],
+    )?;
+    check(
+        &rt,
+        alloc,
+        Operation::MessageMethod(MessageMethod::Node),
+        &["message = node 7", "'message = E4"],
+    )?;
+    check(
+        &rt,
+        alloc,
+        Operation::MessageData,
+        &[
+            "message = [1, \"a\"] > message",
+            "message|1 = E6",
+            "[] = E4",
+            "invalid|1 = E7",
+            " = E6",
+        ],
+    )
+}
+
+#[test]
+fn members_are_read_and_written(rt: HostRuntime) -> Result<(), Fail> {
+    let alloc = rt.alloc();
+    check(
+        &rt,
+        alloc,
+        Operation::ReadMember,
+        &[
+            "{a:1}|'A = 1",
+            "{a:1}|'b = invalid",
+            "[]|'count = E4",
+            "'a|'len = E4",
+            "1|'a = E4",
+            "message|'a = E4",
+            "invalid|'a = E7",
+            "{a:1} = E6",
+        ],
+    )?;
+    check(
+        &rt,
+        alloc,
+        Operation::WriteMember,
+        &[
+            "{a:1}|'A|2 = invalid > {a: 2}",
+            "{}|'b|[1] = invalid > {b: [1]}",
+            "[]|'a|1 = E4 > []",
+            "1|'a|1 = E4",
+            "function|'a|1 = E4",
+            "invalid|'a|1 = E7",
+            "{}|'a = E6",
+        ],
+    )
+}
+
+#[test]
+fn indexes_are_read_and_written(rt: HostRuntime) -> Result<(), Fail> {
+    let alloc = rt.alloc();
+    check(
+        &rt,
+        alloc,
+        Operation::ReadIndex,
+        &[
+            "[1 2]|0 = 1",
+            "[1 2]|1& = 2",
+            "[1 2]|2 = invalid",
+            "[1 2]|-1 = invalid",
+            "[1]|-9223372036854775808& = invalid",
+            "[1]|9223372036854775807& = invalid",
+            "[1]|'0 = E2",
+            "{a:1}|'A = 1",
+            "{a:1}|0 = E2",
+            "'a|0 = E2",
+            "1|0 = E2",
+            "message|0 = E2",
+            "invalid|'x = E7",
+            "[] = E6",
+        ],
+    )?;
+    check(
+        &rt,
+        alloc,
+        Operation::WriteIndex,
+        &[
+            "[1 2]|0|7 = invalid > [7, 2]",
+            "[1]|1&|7 = invalid > [1, 7]",
+            "[]|2|7 = invalid > [invalid, invalid, 7]",
+            "[1]|-1|7 = E2 > [1]",
+            "[1]|-9223372036854775808&|7 = E2 > [1]",
+            "[1]|1048576|7 = E12 > [1]",
+            "[1]|9223372036854775807&|7 = E12 > [1]",
+            "[1]|1048575|7 = invalid > large",
+            "[1]|'0|7 = E2 > [1]",
+            "{a:1}|'b|2 = invalid > {a: 1, b: 2}",
+            "{a:1}|0|2 = E2 > {a: 1}",
+            "'a|0|2 = E2",
+            "invalid|0|2 = E7",
+            "[]|0 = E6",
+        ],
+    )
 }
