@@ -1,0 +1,4 @@
+pub mod Ends
+pub mod LayoutLaws
+pub mod CuttingLaws
+pub mod Growth

@@ -1,0 +1,5 @@
+pub mod Operand
+pub mod Layout
+pub mod Frame
+pub mod Cutting
+pub mod References

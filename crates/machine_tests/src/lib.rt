@@ -1,0 +1,7 @@
+//! The tests of the machine of an actor.
+//!
+//! They stand in a crate of their own, since a crate with tests is proved twice.
+#![tactic(auto)]
+
+#[cfg(test)]
+mod frame_tests;
