@@ -32,10 +32,6 @@ there_next known now root paths i path same listed h at =
 pub comes_next : (paths : List (List ℕ)) (i : ℕ) (path : List ℕ) (before : List (List ℕ)) → IsListing paths → i < length paths → get_or paths i path ≡ path → before ≡ take i paths → MayCome before path
 comes_next paths i path before is h at so_far = subst (λ ps. MayCome ps path) (sym so_far) (comes_after paths i path is h (sym (get_or_read paths i path h (sym at) [])))
 
-pub paths_next : (paths : List (List ℕ)) (i : ℕ) (path : List ℕ) (before after : List (List ℕ)) → i < length paths → get_or paths i path ≡ path → before ≡ take i paths → after ≡ before ++ path ∷ [] → after ≡ take (i + 1) paths
-paths_next paths i path before after h at so_far more =
-    more ∙ ap (λ l. l ++ path ∷ []) so_far ∙ sym (take_more paths i path h ∙ ap (λ x. take i paths ++ x ∷ []) at)
-
 -- the files of the first paths
 abbrev pub first_files : List ℕ → List (List ℕ) → ℕ → List FileBytes → List FileBytes
 first_files root paths i m = map (file_below root m) (take i paths)
@@ -65,14 +61,6 @@ reached_early known root paths i read listed much told m is =
     record {
       much = λ _. subst (λ fs. has_too_many_bytes fs ≡ true) (whole_below root paths m (listed m is)) (front_much (map (file_below root m) paths) i count);
       all = λ less. absurd (omega (arith, less, much));
-    }
-
-pub reached_end : (known : Option (List FileBytes)) (root : List ℕ) (paths : List (List ℕ)) (i : ℕ) (read : Read) → ForSome known (λ m. paths ≡ paths_below root m)
-    → length paths ≤ i → read.counted ≤ 16777216 → ForSome known (λ m. IsGathered (first_files root paths i m) read) → ForSome known (λ m. IsReached (files_below root m) read)
-reached_end known root paths i read listed h less told m is =
-    record {
-      much = λ much. absurd (omega (arith, less, much));
-      all = λ _. subst (λ fs. IsGathered fs read) (ap (map (file_below root m)) (take_all i paths h) ∙ whole_below root paths m (listed m is)) (told m is);
     }
 
 -- an answer that comes whatever the count is, behind a call that left it

@@ -2,7 +2,7 @@
 use Rattle.std.proofs.Common.{◌≡◌, ℕ, ◌+◌, ◌<◌, ◌≤◌, Bool, true, false, ◌||◌, List, [], ◌∷◌, ◌++◌, length, map, take, Some, if◌then◌else◌, refl, ap, ◌∙◌, arith}
 use Rattle.std.specs.Prelude.{nat_lt, filter, sum_by, slice_get}
 use Rattle.std.proofs.lemmas.Bool.Decides.{nat_tests}
-use Rattle.std.proofs.lemmas.List.{map-append, append-nil}
+use Rattle.std.proofs.lemmas.List.{map-append}
 use Rattle.std.proofs.lemmas.List.Elements.{filter-append}
 use Rattle.std.proofs.lemmas.List.Sums.{sum_by_push, sum_by-take-le}
 use Rattle.chan_values.specs.declared.folder_fault.FolderFault.{FolderFault}
@@ -26,21 +26,13 @@ long_fault file = fault_of 2 file.path
 long_more : (files : List FileBytes) (file : FileBytes) → too_long (files ++ file ∷ []) ≡ too_long files ++ too_long (file ∷ [])
 long_more files file = ap (map long_fault) (filter-append is_too_long files (file ∷ [])) ∙ map-append long_fault (filter is_too_long files) (filter is_too_long (file ∷ []))
 
-alone : (is : Bool) (file : FileBytes) → is_too_long file ≡ is → too_long (file ∷ []) ≡ (if is then long_fault file ∷ [] else [])
-alone true file e = ap (λ (b : Bool). map long_fault (if b then file ∷ [] else [])) e
-alone false file e = ap (λ (b : Bool). map long_fault (if b then file ∷ [] else [])) e
-
-pub short_more : (files : List FileBytes) (file : FileBytes) → length file.bytes ≤ 1048576 → too_long (files ++ file ∷ []) ≡ too_long files
-short_more files file h =
-    long_more files file ∙ ap (λ l. too_long files ++ l) (alone false file (lt_fails 1048576 (length file.bytes) h)) ∙ append-nil (too_long files)
+alone : (file : FileBytes) → is_too_long file ≡ true → too_long (file ∷ []) ≡ long_fault file ∷ []
+alone file e = ap (λ (b : Bool). map long_fault (if b then file ∷ [] else [])) e
 
 pub longer_more : (files : List FileBytes) (file : FileBytes) → 1048576 < length file.bytes → too_long (files ++ file ∷ []) ≡ too_long files ++ long_fault file ∷ []
-longer_more files file h = long_more files file ∙ ap (λ l. too_long files ++ l) (alone true file (lt_holds 1048576 (length file.bytes) h))
+longer_more files file h = long_more files file ∙ ap (λ l. too_long files ++ l) (alone file (lt_holds 1048576 (length file.bytes) h))
 
 -- ---- bytes in all
-
-pub short_counted : (files : List FileBytes) (file : FileBytes) → length file.bytes ≤ 1048576 → sum_by counted_bytes (files ++ file ∷ []) ≡ sum_by counted_bytes files + length file.bytes
-short_counted files file h = omega (arith, sum_by_push counted_bytes files file)
 
 pub longer_counted : (files : List FileBytes) (file : FileBytes) → 1048576 < length file.bytes → sum_by counted_bytes (files ++ file ∷ []) ≡ sum_by counted_bytes files + 1048577
 longer_counted files file h = omega (arith, sum_by_push counted_bytes files file)
@@ -50,23 +42,12 @@ front_much files i h = lt_holds 16777216 (sum_by counted_bytes files) (omega (ar
 
 -- ---- the first fault
 
-or_second : (a b : Bool) → b ≡ true → (a || b) ≡ true
-or_second true b e = refl
-or_second false b e = e
-
 or_neither : (a b : Bool) → a ≡ false → b ≡ false → (a || b) ≡ false
 or_neither true b e d = absurd (cc)
 or_neither false b e d = d
 
-first_of : (much : Bool) (files : List FileBytes) → is_too_much files ≡ much → first_size_fault files ≡ (if much then Some (fault_of 1 []) else slice_get (too_long files) 0)
-first_of true files e = ap (λ (b : Bool). slice_get ((if b then fault_of 1 [] ∷ [] else []) ++ too_long files) 0) e
-first_of false files e = ap (λ (b : Bool). slice_get ((if b then fault_of 1 [] ∷ [] else []) ++ too_long files) 0) e
-
-pub many_files : (files : List FileBytes) → 4096 < length files → first_size_fault files ≡ Some (fault_of 1 [])
-many_files files h = first_of true files (ap (λ (b : Bool). b || has_too_many_bytes files) (lt_holds 4096 (length files) h))
-
-pub many_bytes : (files : List FileBytes) → has_too_many_bytes files ≡ true → first_size_fault files ≡ Some (fault_of 1 [])
-many_bytes files h = first_of true files (or_second (has_too_many_files files) (has_too_many_bytes files) h)
+not_first : (files : List FileBytes) → is_too_much files ≡ false → first_size_fault files ≡ slice_get (too_long files) 0
+not_first files e = ap (λ (b : Bool). slice_get ((if b then fault_of 1 [] ∷ [] else []) ++ too_long files) 0) e
 
 pub not_much : (files : List FileBytes) → has_too_many_files files ≡ false → sum_by counted_bytes files ≤ 16777216 → first_size_fault files ≡ slice_get (too_long files) 0
-not_much files few h = first_of false files (or_neither (has_too_many_files files) (has_too_many_bytes files) few (lt_fails 16777216 (sum_by counted_bytes files) h))
+not_much files few h = not_first files (or_neither (has_too_many_files files) (has_too_many_bytes files) few (lt_fails 16777216 (sum_by counted_bytes files) h))

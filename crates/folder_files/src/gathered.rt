@@ -1,6 +1,5 @@
 //! The files that were read so far.
 ghost use Rattle.std.specs.Prelude.{◌≡◌, ◌+◌, ◌≤◌, ℕ, List, [], ◌∷◌, ◌++◌, length, Some, None, OnOk, IfOk};
-ghost use Rattle.chan_values.specs.declared.folder_fault.FolderFault.{FolderFault as Fault};
 ghost use Rattle.outside.specs.declared.files.FileBytes.{FileBytes as File};
 ghost use Rattle.outside.specs.Folder.{IsWithin, MayCome, read_of};
 ghost use Rattle.folder_files.specs.Gathered.{IsGathered, IsWhole, and_file, either, paths_of};

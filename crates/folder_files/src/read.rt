@@ -1,5 +1,5 @@
 //! Reading a folder.
-ghost use Rattle.std.specs.Prelude.{◌≡◌, ◌≤◌, ◌<◌, ℕ, List, [], ◌∷◌, ◌++◌, false, length, IfOk, OnOk, None, IsSome};
+ghost use Rattle.std.specs.Prelude.{◌≡◌, ◌≤◌, ℕ, List, [], ◌∷◌, ◌++◌, false, IfOk, OnOk, None, IsSome};
 ghost use Rattle.std.specs.Option.{ForSome};
 ghost use Rattle.outside.specs.declared.files.FileBytes.{FileBytes as File};
 ghost use Rattle.outside.specs.Causes.{CountsFault};
@@ -159,7 +159,7 @@ fn read_paths<F: Files>(
 /// - `ReadFault` comes only where the count of the files rose in this call.
 /// - `NoMemory` says that memory ran out.
 ///
-/// No file is read behind the one with which the bytes are too many, so at most 17,825,793 bytes are held.
+/// No file is read behind the one with which the bytes are too many, so at most 17,825,792 bytes are held.
 ///
 /// Source: Roku developer documentation, "Channel manifest", BrightScript Language Reference and SceneGraph XML Guide, for the places of the files;
 /// the bounds are rules of this project.
