@@ -1,0 +1,6 @@
+pub mod Words
+pub mod Declared
+pub mod FileFaults
+pub mod Contents
+pub mod Answers
+pub mod FolderFaults
