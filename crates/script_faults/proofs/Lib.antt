@@ -1,0 +1,13 @@
+pub mod Paths
+pub mod Numbers
+pub mod Standing
+pub mod Earliest
+pub mod Sorted
+pub mod Distinct
+pub mod Walks
+pub mod KindRows
+pub mod RowFaults
+pub mod NamedFaults
+pub mod Grouped
+pub mod Collected
+pub mod Passing

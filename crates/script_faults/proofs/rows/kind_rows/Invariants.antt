@@ -1,0 +1,8 @@
+use Rattle.std.proofs.Common.{◌++◌, map, take}
+use Rattle.folder_rules.specs.Kinds.{built_in_kinds, component_kind, kind_names}
+use Rattle.script_faults.specs.Rows.{AreRows}
+use Rattle.script_faults.specs.Sources.{all_sources}
+use Rattle.script_faults.proofs.rows.kind_rows.Given as goal
+
+abbrev pub invariant-loop-component : goal.invariant-loop-component
+invariant-loop-component l = AreRows (all_sources l.table) l.components (kind_names l.components) l.rows.items (built_in_kinds ++ map component_kind (take l.component-index l.components))
