@@ -1,9 +1,8 @@
 //! A long chain of bases, of which each component names a function that only the first has.
+use crate::checks::{are_few, check_all};
 use crate::folders::{functions, text};
-use component_faults::kind_table;
 use component_files::read_component;
 use folder_rules::{PathedComponent, SourceFunctions};
-use script_faults::{check_duplicate_functions, check_functions, check_scripts, source_table};
 use std::alloc::Global;
 
 fn push_component(
@@ -52,11 +51,10 @@ fn is_good(alloc: Global, count: u32) -> Option<bool> {
         push_component(alloc, &mut components, name.as_str(), base.as_str())?;
         push_source(alloc, &mut sources, name.as_str(), "own")?;
     }
-    let names = kind_table(alloc, components.as_slice()).ok()?;
-    let table = source_table(alloc, sources.as_slice()).ok()?;
-    check_scripts(alloc, &table, components.as_slice()).ok()?;
-    check_duplicate_functions(alloc, &table, components.as_slice()).ok()?;
-    Some(check_functions(alloc, &table, &names, components.as_slice()).is_ok())
+    if !are_few(sources.as_slice()) {
+        return None;
+    }
+    Some(check_all(alloc, components.as_slice(), sources.as_slice()).is_ok())
 }
 
 #[test]

@@ -1,23 +1,8 @@
 //! What no clause says: with ample memory each check answers, with the fault that the folder has.
+use crate::checks::{are_few, check_all};
 use crate::folders::{ComponentRow, Refusal, SourceRow, components, is_refusal, sources};
 use chan_values::Text;
-use component_faults::kind_table;
-use folder_rules::{PathedComponent, SourceFunctions, TablesAnswer};
-use script_faults::{check_duplicate_functions, check_functions, check_scripts, source_table};
 use std::alloc::Global;
-
-/// The checks of scripts and functions in their order.
-fn check_all(
-    alloc: Global,
-    components: &[PathedComponent],
-    sources: &[SourceFunctions],
-) -> Result<(), TablesAnswer> {
-    let names = kind_table(alloc, components)?;
-    let table = source_table(alloc, sources)?;
-    check_scripts(alloc, &table, components)?;
-    check_duplicate_functions(alloc, &table, components)?;
-    check_functions(alloc, &table, &names, components)
-}
 
 /// Whether a folder has this first fault of scripts and functions, or none.
 fn is_answered(
@@ -28,6 +13,9 @@ fn is_answered(
 ) -> Option<bool> {
     let components = components(alloc, component_rows)?;
     let sources = sources(alloc, source_rows)?;
+    if !are_few(sources.as_slice()) {
+        return None;
+    }
     let answer = check_all(alloc, components.as_slice(), sources.as_slice());
     Some(is_refusal(answer, refusal))
 }
