@@ -3,7 +3,5 @@
 
 mod files;
 mod made;
-#[cfg(test)]
-mod tests;
 
 pub use made::{Made, make_channel};

@@ -25,5 +25,3 @@ pub use words::{
     word_draft,
 };
 
-#[cfg(test)]
-mod tests;

@@ -7,3 +7,5 @@
 mod piece_tests;
 #[cfg(test)]
 mod tests;
+#[cfg(test)]
+mod writer_tests;

@@ -13,5 +13,3 @@ pub use observer_list::ObserverList;
 pub use observers::Observers;
 pub use target::{Registration, Target};
 
-#[cfg(test)]
-mod tests;

@@ -15,5 +15,3 @@ pub use plans::{
 };
 pub use types::{FieldType, field_type, opening};
 
-#[cfg(test)]
-mod tests;

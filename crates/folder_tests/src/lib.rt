@@ -4,4 +4,6 @@
 #![tactic(auto)]
 
 #[cfg(test)]
+mod made_tests;
+#[cfg(test)]
 mod reading_tests;

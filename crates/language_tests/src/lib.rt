@@ -13,3 +13,5 @@ mod first_form_tests;
 mod grammar_tests;
 #[cfg(test)]
 mod token_tests;
+#[cfg(test)]
+mod word_tests;

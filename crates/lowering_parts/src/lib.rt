@@ -6,8 +6,6 @@ mod operands;
 mod places;
 mod slots;
 mod tables;
-#[cfg(test)]
-mod tests;
 
 pub use operands::operands_after;
 pub use places::{at_place, with_index};

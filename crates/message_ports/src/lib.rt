@@ -5,5 +5,3 @@ mod ports;
 
 pub use ports::{MAX_PORTS, PortFault, Ports};
 
-#[cfg(test)]
-mod tests;

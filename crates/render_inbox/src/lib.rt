@@ -8,5 +8,3 @@ mod inbox;
 pub use entry::Entry;
 pub use inbox::Inbox;
 
-#[cfg(test)]
-mod tests;

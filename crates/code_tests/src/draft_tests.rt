@@ -1,5 +1,5 @@
 //! What no clause says: the happy paths.
-use crate::{
+use code_drafts::{
     Buffer, Draft, and_operand, arm_blocks, each_loop, for_loop, inside_for, key_word, keys, marks,
     no_loops, or_operand, set_draft, while_loop,
 };

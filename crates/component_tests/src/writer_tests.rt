@@ -1,11 +1,11 @@
 //! What no clause says: with ample memory component files are written, and how.
-use crate::write_component;
+use component_writer::write_component;
 use chan_values::Bytes;
 use component_files::read_component;
 use std::alloc::Global;
 
 /// The component file that the bytes are, as it is written.
-#[tactic(auto, using(crate::proofs::Whole::was_read))]
+#[tactic(auto, using(component_writer::proofs::Whole::was_read))]
 fn written(alloc: Global, bytes: &[u8]) -> Option<Vec<u8>> {
     if bytes.len() >= 10000 {
         return None;

@@ -1,5 +1,5 @@
 //! What no clause says: the happy paths, each word with each kind of value, and each kind of attribute text.
-use crate::{AttributeAnswer, FieldType, convert, field_type, opening, read_attribute};
+use field_types::{AttributeAnswer, FieldType, convert, field_type, opening, read_attribute};
 use chan_values::{ItemList, NoMemory, PairList, Portable, Text, text_of_value};
 use std::alloc::Global;
 use std::process::Abort;

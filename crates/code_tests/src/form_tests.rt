@@ -1,5 +1,5 @@
 //! What no clause says: the happy paths.
-use crate::{folded_bytes, key_text, readable_text, text_of};
+use brs_forms::{folded_bytes, key_text, readable_text, text_of};
 use std::test::Fail;
 
 #[test]

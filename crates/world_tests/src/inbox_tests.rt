@@ -1,5 +1,5 @@
 //! What no clause says: the happy paths.
-use crate::{Entry, Inbox};
+use render_inbox::{Entry, Inbox};
 use chan_values::{Access, Key};
 use std::test::Fail;
 

@@ -1,5 +1,5 @@
 //! The words of tokens, each as a lexer gives them.
-use crate::{Word, is_keyword, is_name, is_word, place_of, same_word, word_of};
+use grammar_rules::{Word, is_keyword, is_name, is_word, place_of, same_word, word_of};
 use brs_tokens::{Token, TokenKind};
 use std::test::Fail;
 

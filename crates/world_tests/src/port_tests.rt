@@ -1,5 +1,5 @@
 //! What no clause says: the happy paths.
-use crate::{MAX_PORTS, PortFault, Ports};
+use message_ports::{MAX_PORTS, PortFault, Ports};
 use chan_values::{Message, NoMemory, Portable, Text};
 use std::alloc::Global;
 use std::test::Fail;

@@ -1,5 +1,5 @@
 //! What no clause says: the happy paths.
-use crate::{Slots, Tables, at_place, operands_after, with_index};
+use lowering_parts::{Slots, Tables, at_place, operands_after, with_index};
 use brs_code::{Instr, Mark};
 use chan_values::Text;
 use std::test::Fail;

@@ -1,6 +1,6 @@
 //! The made channel of a size, looked at as a reader would.
 
-use crate::make_channel;
+use channel_gen::make_channel;
 use outside::files::FileBytes;
 use outside::listing::Listing;
 use std::process::Abort;

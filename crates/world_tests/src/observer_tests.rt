@@ -1,5 +1,5 @@
 //! What no clause says: the happy paths.
-use crate::{ObserverList, Observers, Target};
+use field_observers::{ObserverList, Observers, Target};
 use chan_values::{NoMemory, Text};
 use std::alloc::Global;
 use std::test::Fail;
