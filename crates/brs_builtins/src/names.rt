@@ -1,11 +1,10 @@
 //! The names of functions and methods.
-ghost use Rattle.std.specs.Prelude.{◌≡◌, map};
-ghost use Rattle.plain_operations.specs.Names.{beside};
+ghost use Rattle.std.specs.Prelude.{◌≡◌};
 ghost use Rattle.brs_builtins.specs.Names as spec;
 
 use crate::operation::Operation;
 use object_operations::{ArrayMethod, MapMethod, MessageMethod, Receiver};
-use plain_operations::{PlainFunction, PlainMethod};
+use plain_operations::{PlainFunction, PlainMethod, value_beside};
 
 const FUNCTIONS: [(&[u8], Operation); 15] = [
     (b"abs", Operation::Function(PlainFunction::Abs)),
@@ -65,18 +64,6 @@ const PLAIN_METHODS: [(&[u8], Operation); 4] = [
     (b"trim", Operation::PlainMethod(PlainMethod::Trim)),
 ];
 
-fn operation_beside(mut rows: &[(&[u8], Operation)], name: &[u8]) -> Option<Operation>
-    ensures { result ≡ beside (map (λ row. (row.0.now, row.1)) rows.entry.now) name.now }
-{
-    while let [row, rest @ ..] = rows {
-        if row.0 == name {
-            return Some(row.1);
-        }
-        rows = rest;
-    }
-    None
-}
-
 /// The built-in function with a folded name, `None` exactly for another name and for `wait`, which is no operation.
 /// Takes no memory.
 ///
@@ -84,7 +71,7 @@ fn operation_beside(mut rows: &[(&[u8], Operation)], name: &[u8]) -> Option<Oper
 pub fn function_named(name: &[u8]) -> Option<Operation>
     ensures { result ≡ spec.function_named name.now }
 {
-    operation_beside(&FUNCTIONS, name)
+    value_beside(&FUNCTIONS, name)
 }
 
 /// The built-in method with a folded name of what it is called on, `None` exactly where that has no such method. A
@@ -97,9 +84,9 @@ pub fn method_named(receiver: Receiver, name: &[u8]) -> Option<Operation>
 {
     match receiver {
         Receiver::Invalid => None,
-        Receiver::Array => operation_beside(&ARRAY_METHODS, name),
-        Receiver::Pairs => operation_beside(&MAP_METHODS, name),
-        Receiver::Message => operation_beside(&MESSAGE_METHODS, name),
-        Receiver::Other => operation_beside(&PLAIN_METHODS, name),
+        Receiver::Array => value_beside(&ARRAY_METHODS, name),
+        Receiver::Pairs => value_beside(&MAP_METHODS, name),
+        Receiver::Message => value_beside(&MESSAGE_METHODS, name),
+        Receiver::Other => value_beside(&PLAIN_METHODS, name),
     }
 }

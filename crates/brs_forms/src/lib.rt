@@ -9,4 +9,3 @@ mod texts;
 
 pub use names::{folded_bytes, is_m};
 pub use texts::{key_text, number_of, readable_text, text_of};
-

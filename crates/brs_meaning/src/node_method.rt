@@ -1,7 +1,8 @@
 //! The methods of nodes.
-ghost use Rattle.std.specs.Prelude.{◌≡◌, map};
-ghost use Rattle.plain_operations.specs.Names.{beside};
+ghost use Rattle.std.specs.Prelude.{◌≡◌};
 ghost use Rattle.brs_meaning.specs.MethodNames as spec;
+
+use plain_operations::value_beside;
 
 /// A method of a node.
 ///
@@ -73,23 +74,11 @@ const METHODS: [(&[u8], NodeMethod); 20] = [
     (b"issamenode", NodeMethod::IsSameNode),
 ];
 
-fn method_beside(mut rows: &[(&[u8], NodeMethod)], name: &[u8]) -> Option<NodeMethod>
-    ensures { result ≡ beside (map (λ row. (row.0.now, row.1)) rows.entry.now) name.now }
-{
-    while let [row, rest @ ..] = rows {
-        if row.0 == name {
-            return Some(row.1);
-        }
-        rows = rest;
-    }
-    None
-}
-
 /// The method of nodes with a folded name, `None` exactly for another name. Takes no memory.
 ///
 /// Source: SceneGraph, "roSGNode".
 pub fn node_method_named(name: &[u8]) -> Option<NodeMethod>
     ensures { result ≡ spec.node_method_named name.now }
 {
-    method_beside(&METHODS, name)
+    value_beside(&METHODS, name)
 }

@@ -24,4 +24,3 @@ pub use words::{
     product_operator, shift_operator, slot_draft, sum, sum_operator, update_operator, value_type,
     word_draft,
 };
-

@@ -1,12 +1,12 @@
 //! What no clause says: the happy paths.
-use code_drafts::{
-    Buffer, Draft, and_operand, arm_blocks, each_loop, for_loop, inside_for, key_word, keys, marks,
-    no_loops, or_operand, set_draft, while_loop,
-};
 use brs_code::Instr;
 use brs_grammar::tree::{Key, Name};
 use brs_tokens::Place;
 use chan_values::NoMemory;
+use code_drafts::{
+    Buffer, Draft, and_operand, arm_blocks, each_loop, for_loop, inside_for, key_word, keys, marks,
+    no_loops, or_operand, set_draft, while_loop,
+};
 use sqlite_items::Items;
 use std::alloc::Global;
 use std::test::Fail;

@@ -1,7 +1,7 @@
 //! What no clause says: the happy paths.
-use lowering_parts::{Slots, Tables, at_place, operands_after, with_index};
 use brs_code::{Instr, Mark};
 use chan_values::Text;
+use lowering_parts::{Slots, Tables, at_place, operands_after, with_index};
 use std::test::Fail;
 
 #[test]

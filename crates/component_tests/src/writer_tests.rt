@@ -1,7 +1,7 @@
 //! What no clause says: with ample memory component files are written, and how.
-use component_writer::write_component;
 use chan_values::Bytes;
 use component_files::read_component;
+use component_writer::write_component;
 use std::alloc::Global;
 
 /// The component file that the bytes are, as it is written.

@@ -14,4 +14,3 @@ mod write;
 
 pub use laws::{read_files_can_be_written, spellings_are_read};
 pub use write::write_component;
-

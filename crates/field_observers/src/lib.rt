@@ -12,4 +12,3 @@ pub use laws::{a_registration_comes_last, dropped_registrations_are_of_their_fie
 pub use observer_list::ObserverList;
 pub use observers::Observers;
 pub use target::{Registration, Target};
-

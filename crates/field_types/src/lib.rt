@@ -14,4 +14,3 @@ pub use plans::{
     AttributeList, AttributeValue, ChildPlan, ChildPlanList, FieldPlan, FieldPlanList, KindPlan,
 };
 pub use types::{FieldType, field_type, opening};
-

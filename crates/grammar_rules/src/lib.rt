@@ -6,4 +6,3 @@ mod word;
 
 pub use spelling::{is_keyword, is_name, is_word, place_of, same_word, word_of};
 pub use word::Word;
-

@@ -1,6 +1,6 @@
 //! The words of tokens, each as a lexer gives them.
-use grammar_rules::{Word, is_keyword, is_name, is_word, place_of, same_word, word_of};
 use brs_tokens::{Token, TokenKind};
+use grammar_rules::{Word, is_keyword, is_name, is_word, place_of, same_word, word_of};
 use std::test::Fail;
 
 #[test]

@@ -4,4 +4,3 @@
 mod ports;
 
 pub use ports::{MAX_PORTS, PortFault, Ports};
-

@@ -30,7 +30,7 @@ pub use functions::call_function;
 pub use limits::LONGEST_TEXT;
 pub use method::PlainMethod;
 pub use methods::{call_method, has_method, member_error};
-pub use names::{function_named, method_named};
+pub use names::{function_named, method_named, value_beside};
 pub use operand::Operand;
 pub use operator::{Operator, UnaryOperator};
 pub use operators::{operate, operate_alone};

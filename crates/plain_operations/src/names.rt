@@ -28,19 +28,9 @@ const METHODS: [(&[u8], PlainMethod); 4] = [
     (b"trim", PlainMethod::Trim),
 ];
 
-fn function_beside(mut rows: &[(&[u8], PlainFunction)], name: &[u8]) -> Option<PlainFunction>
-    ensures { result ≡ spec.beside (map (λ row. (row.0.now, row.1)) rows.entry.now) name.now }
-{
-    while let [row, rest @ ..] = rows {
-        if row.0 == name {
-            return Some(row.1);
-        }
-        rows = rest;
-    }
-    None
-}
-
-fn method_beside(mut rows: &[(&[u8], PlainMethod)], name: &[u8]) -> Option<PlainMethod>
+/// What stands beside a name in a table, in the first row with that name, `None` exactly where no row has it. Takes no
+/// memory.
+pub fn value_beside<T: Copy>(mut rows: &[(&[u8], T)], name: &[u8]) -> Option<T>
     ensures { result ≡ spec.beside (map (λ row. (row.0.now, row.1)) rows.entry.now) name.now }
 {
     while let [row, rest @ ..] = rows {
@@ -56,12 +46,12 @@ fn method_beside(mut rows: &[(&[u8], PlainMethod)], name: &[u8]) -> Option<Plain
 pub fn function_named(name: &[u8]) -> Option<PlainFunction>
     ensures { result ≡ spec.function_named name.now }
 {
-    function_beside(&FUNCTIONS, name)
+    value_beside(&FUNCTIONS, name)
 }
 
 /// The method of texts, numbers and Booleans with a folded name, `None` exactly for another name. Takes no memory.
 pub fn method_named(name: &[u8]) -> Option<PlainMethod>
     ensures { result ≡ spec.method_named name.now }
 {
-    method_beside(&METHODS, name)
+    value_beside(&METHODS, name)
 }

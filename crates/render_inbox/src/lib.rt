@@ -7,4 +7,3 @@ mod inbox;
 
 pub use entry::Entry;
 pub use inbox::Inbox;
-

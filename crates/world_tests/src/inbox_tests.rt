@@ -1,6 +1,6 @@
 //! What no clause says: the happy paths.
-use render_inbox::{Entry, Inbox};
 use chan_values::{Access, Key};
+use render_inbox::{Entry, Inbox};
 use std::test::Fail;
 
 /// What kind of entry it is, and its number.

@@ -1,6 +1,6 @@
 //! What no clause says: the happy paths.
-use field_observers::{ObserverList, Observers, Target};
 use chan_values::{NoMemory, Text};
+use field_observers::{ObserverList, Observers, Target};
 use std::alloc::Global;
 use std::test::Fail;
 

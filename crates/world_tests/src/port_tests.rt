@@ -1,6 +1,6 @@
 //! What no clause says: the happy paths.
-use message_ports::{MAX_PORTS, PortFault, Ports};
 use chan_values::{Message, NoMemory, Portable, Text};
+use message_ports::{MAX_PORTS, PortFault, Ports};
 use std::alloc::Global;
 use std::test::Fail;
 

@@ -1,6 +1,6 @@
 //! What no clause says: the happy paths, each word with each kind of value, and each kind of attribute text.
-use field_types::{AttributeAnswer, FieldType, convert, field_type, opening, read_attribute};
 use chan_values::{ItemList, NoMemory, PairList, Portable, Text, text_of_value};
+use field_types::{AttributeAnswer, FieldType, convert, field_type, opening, read_attribute};
 use std::alloc::Global;
 use std::process::Abort;
 use std::test::Fail;

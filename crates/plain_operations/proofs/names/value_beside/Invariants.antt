@@ -1,6 +1,6 @@
 use Rattle.std.proofs.Common.{◌≡◌, length, map}
 use Rattle.plain_operations.specs.Names.{beside}
-use Rattle.brs_builtins.proofs.names.operation_beside.Given as goal
+use Rattle.plain_operations.proofs.names.value_beside.Given as goal
 
 abbrev pub invariant-loop-rows : goal.invariant-loop-rows
 invariant-loop-rows l = beside (map (λ row. (row.0.now, row.1)) l.rows) l.name ≡ beside (map (λ row. (row.0.now, row.1)) l.initial.rows) l.name
