@@ -1,8 +1,8 @@
 use Rattle.std.proofs.Common.{rules, eqb, tests}
 use Rattle.std.proofs.lemmas.Iterator.Search.{all_from_yields_List}
 use Rattle.std.proofs.lemmas.Iterator.Splits.{YieldsList-from_slice_split}
-use Rattle.channel_run.specs.Manifest.{is_good_line}
-use Rattle.channel_run.proofs.manifest.is_good_manifest.Goals as goal
+use Rattle.folder_files.specs.Manifest.{is_good_line}
+use Rattle.folder_files.proofs.manifest.is_good_manifest.Goals as goal
 
 pub returns : goal.returns
 returns c =

@@ -1,7 +1,7 @@
 -- Manifests, good and bad, computed.
 use Rattle.std.proofs.Common.{◌≡◌, true, false, [], ◌∷◌, ◌++◌, refl}
 use Rattle.std.specs.Prelude.{codes}
-use Rattle.channel_run.specs.Manifest.{is_good_manifest}
+use Rattle.folder_files.specs.Manifest.{is_good_manifest}
 
 empty_manifest : is_good_manifest [] ≡ true
 empty_manifest = refl
