@@ -5,3 +5,5 @@
 
 #[cfg(test)]
 mod frame_tests;
+#[cfg(test)]
+mod release_tests;
