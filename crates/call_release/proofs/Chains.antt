@@ -1,5 +1,5 @@
 -- References that are taken back one after another.
-use Rattle.std.proofs.Common.{◌≡◌, ℕ, ◌+◌, sym, subst, arith}
+use Rattle.std.proofs.Common.{◌≡◌, ℕ, ◌+◌, arith}
 use Rattle.heap_meaning.specs.Stands.{Outside}
 use Rattle.heap_meaning.specs.Heap.{Heap, Moves, no_references}
 use Rattle.heap_meaning.proofs.Steps.{stands_same}
