@@ -1,5 +1,5 @@
 -- How often what calls in progress hold names a cell.
-use Rattle.std.specs.Prelude.{ℕ, ◌+◌, List, [], ◌∷◌, Option, Some, None}
+use Rattle.std.specs.Prelude.{ℕ, ◌+◌, List, [], ◌∷◌, Some, None}
 use Rattle.heap_meaning.specs.Cells.{occurrence}
 use Rattle.frame_stack.specs.Operand.{Operand, Holds, Items, Keys}
 use Rattle.frame_stack.specs.Frame.{Slots, Frame}
