@@ -1,5 +1,5 @@
 -- The kinds of faults, one after another.
-use Rattle.std.proofs.Common.{◌≡◌, List, [], ◌∷◌, Option, Some, None, Result, Ok, Err, refl, sym, subst, ap, ◌∙◌, inl, inr}
+use Rattle.std.proofs.Common.{◌≡◌, List, [], ◌∷◌, Option, Some, None, Result, Err, refl, sym, subst, ap, ◌∙◌, inl, inr}
 use Rattle.chan_values.specs.declared.folder_fault.FolderFault.{FolderFault}
 use Rattle.folder_rules.specs.declared.answer.TablesAnswer.{TablesAnswer}
 use Rattle.folder_rules.specs.declared.component.PathedComponent.{PathedComponent}
