@@ -1,0 +1,3 @@
+mod ScriptLines
+mod Scripts
+mod Components

@@ -1,0 +1,2 @@
+pub mod ComponentFaults
+pub mod Answers
