@@ -1,4 +1,0 @@
-pub mod Naming
-pub mod Moves
-pub mod Steps
-pub mod Calls

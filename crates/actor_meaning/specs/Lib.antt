@@ -1,5 +1,0 @@
-pub mod View
-pub mod Showing
-pub mod Promises
-pub mod Performing
-pub mod Laws

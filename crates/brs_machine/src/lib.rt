@@ -1,8 +1,0 @@
-//! The machine of an actor.
-#![tactic(auto)]
-
-mod actor;
-mod home;
-
-pub use actor::Actor;
-pub use home::HomeId;
