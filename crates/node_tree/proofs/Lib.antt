@@ -1,3 +1,6 @@
+pub mod NameCompares
+pub mod NameSearches
+pub mod NamePlaces
 pub mod Places
 pub mod SameTrees
 pub mod Firsts
