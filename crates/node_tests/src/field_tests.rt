@@ -86,6 +86,33 @@ fn fields_are_set_and_added_by_names_in_any_case(rt: HostRuntime) -> Result<(), 
     Ok(())
 }
 
+#[test]
+fn each_of_many_fields_is_found_in_any_case_of_its_name(rt: HostRuntime) -> Result<(), Fail> {
+    let alloc = rt.alloc();
+    let mut nodes = labels(&rt, alloc, 1)?;
+    for number in 0..200 {
+        let name = format!(in alloc; "Field{}", number * 37 % 200)?;
+        assert!(rt; add(&rt, &mut nodes, 2, name.as_str(), FieldType::Integer, false)?);
+    }
+    for number in 0..200 {
+        let name = format!(in alloc; "fIELD{number}")?;
+        let answer = set(&rt, &mut nodes, 2, name.as_str(), &Portable::Small(number + 1))?;
+        assert_eq!(rt; answer, SetResult::Changed);
+    }
+    check_node(&rt, &nodes, 2);
+    for number in 0..200 {
+        let name = format!(in alloc; "FIELD{number}")?;
+        let Some(Portable::Small(held)) = nodes.get_field(2, name.as_bytes()) else {
+            return Err("no number")?;
+        };
+        assert_eq!(rt; *held, number + 1);
+    }
+    for other in ["field200", "field", "fiel", "field00", "", "zoom"] {
+        assert!(rt; nodes.get_field(2, other.as_bytes()).is_none());
+    }
+    Ok(())
+}
+
 fn array_of(alloc: Global, items: [Portable; 2]) -> Result<Portable, NoMemory> {
     let mut list = ItemList::new(alloc);
     for item in items {

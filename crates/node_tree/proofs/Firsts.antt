@@ -38,10 +38,10 @@ has_none c (k ∷ ks) h = any_step (k == c) (position_or_len (λ i. i == c) ks) 
 
 -- ---- by the answer of a search
 
-within_by : {A : Type 0} (p : A → Bool) (xs : List A) (at : ℕ) → position p xs ≡ Some at → (position_or_len p xs ≡ at) × (position_or_len p xs < length xs)
+pub within_by : {A : Type 0} (p : A → Bool) (xs : List A) (at : ℕ) → position p xs ≡ Some at → (position_or_len p xs ≡ at) × (position_or_len p xs < length xs)
 within_by p xs at e = let h = cond_some _ _ _ e in (h.1, ltb-true _ _ h.0)
 
-past_by : {A : Type 0} (p : A → Bool) (xs : List A) → position p xs ≡ None → length xs ≤ position_or_len p xs
+pub past_by : {A : Type 0} (p : A → Bool) (xs : List A) → position p xs ≡ None → length xs ≤ position_or_len p xs
 past_by p xs e = go _ refl e
   where
     go : (b : Bool) → nat_lt (position_or_len p xs) (length xs) ≡ b → cond b (Some (position_or_len p xs)) None ≡ None → length xs ≤ position_or_len p xs

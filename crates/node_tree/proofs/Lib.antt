@@ -1,3 +1,7 @@
+pub mod NameCompares
+pub mod NameSearches
+pub mod NamePlaces
+pub mod NameGrowth
 pub mod Places
 pub mod SameTrees
 pub mod Firsts

@@ -1,6 +1,7 @@
 pub mod SameTree
 pub mod Nodes
 pub mod Fields
+pub mod NameOrder
 pub mod Family
 pub mod Search
 pub mod Subtree

@@ -1,13 +1,27 @@
 //! Names of fields.
 ghost use Rattle.std.specs.Prelude.{◌≡◌};
-ghost use Rattle.field_types.specs.Words as spec;
+ghost use Rattle.chan_values.specs.Folded.{folded};
+ghost use Rattle.node_tree.specs.NameOrder.{name_cmp};
 
-use chan_values::Text;
+use std::cmp::Ordering;
 
-/// Whether a name is this one, in any case of its letters.
-#[tactic(auto, unfolding(field_types::specs::Words::is_alike))]
-pub fn is_alike(id: &Text, name: &[u8]) -> bool
-    ensures { result ≡ spec.is_alike id.now name.now }
+/// How one name stands to another by their bytes, without regard to the case of their letters.
+pub fn compare_folded(name: &[u8], other: &[u8]) -> Ordering
+    ensures { result ≡ name_cmp (folded name.now) (folded other.now) }
 {
-    id.as_str().as_bytes().eq_ignore_ascii_case(name)
+    for at in 0..name.len() {
+        if at >= other.len() {
+            return Ordering::Greater;
+        }
+        match name[at].to_ascii_lowercase().cmp(&other[at].to_ascii_lowercase()) {
+            Ordering::Less => return Ordering::Less,
+            Ordering::Greater => return Ordering::Greater,
+            Ordering::Equal => {}
+        }
+    }
+    if name.len() < other.len() {
+        Ordering::Less
+    } else {
+        Ordering::Equal
+    }
 }
