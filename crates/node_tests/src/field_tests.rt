@@ -96,7 +96,13 @@ fn each_of_many_fields_is_found_in_any_case_of_its_name(rt: HostRuntime) -> Resu
     }
     for number in 0..200 {
         let name = format!(in alloc; "fIELD{number}")?;
-        let answer = set(&rt, &mut nodes, 2, name.as_str(), &Portable::Small(number + 1))?;
+        let answer = set(
+            &rt,
+            &mut nodes,
+            2,
+            name.as_str(),
+            &Portable::Small(number + 1),
+        )?;
         assert_eq!(rt; answer, SetResult::Changed);
     }
     check_node(&rt, &nodes, 2);

@@ -33,7 +33,7 @@ module _ (names : List (List ℕ)) (order : List ℕ) (name : List ℕ) (o : IsN
     where
       leads : (at : ℕ) → at < length (names ++ name ∷ []) → Leads (names ++ name ∷ []) order (get_or (names ++ name ∷ []) at []) at
       leads at h = elim (cases_lt at (length names)) [
-        inl l ↦ let lead = o.leads at l in record {
+        | inl l ↦ let lead = o.leads at l in record {
           k = lead.k;
           within = lead.within;
           early = lead.early;
@@ -73,16 +73,16 @@ module _ (names : List (List ℕ)) (order : List ℕ) (name : List ℕ) (o : IsN
     -- what holds below the gap, at it, and above it, holds everywhere
     each : (P : ℕ → Type 0) → ((j : ℕ) → j < k → P j) → P k → ((j : ℕ) → k ≤ j → j < length order → P (j + 1)) → (j : ℕ) → j < length (insert order k (length names)) → P j
     each P b q a j h = elim (cases_order j k) [
-      inl e ↦ subst P (sym e) q
+      | inl e ↦ subst P (sym e) q
       | inr (inl l) ↦ b j l
       | inr (inr l) ↦ let e : (j - 1) + 1 ≡ j = omega arith in subst P e (a (j - 1) (omega arith) (let n = longer in omega arith))
     ]
 
     inside : (j : ℕ) → j < length (insert order k (length names)) → get_or (insert order k (length names)) j 0 < length (names ++ name ∷ [])
     inside = each (λ j. get_or (insert order k (length names)) j 0 < length (names ++ name ∷ []))
-      (λ j l. let e = place_below j l in let n = o.inside j (let w = gap.within in omega arith) in let m = more in omega arith)
-      (let e = place_here in let m = more in omega arith)
-      (λ j l h. let e = place_above j l in let n = o.inside j h in let m = more in omega arith)
+        (λ j l. let e = place_below j l in let n = o.inside j (let w = gap.within in omega arith) in let m = more in omega arith)
+        (let e = place_here in let m = more in omega arith)
+        (λ j l h. let e = place_above j l in let n = o.inside j h in let m = more in omega arith)
 
     abbrev Before : ℕ → ℕ → Type 0
     Before i j = i < j → name_cmp (name_at (names ++ name ∷ []) (insert order k (length names)) i) (name_at (names ++ name ∷ []) (insert order k (length names)) j) ≡ Less
@@ -98,14 +98,14 @@ module _ (names : List (List ℕ)) (order : List ℕ) (name : List ℕ) (o : IsN
 
         at_above : (n : ℕ) → k ≤ n → n < length order → Before i (n + 1)
         at_above n l w = each (λ p. Before p (n + 1))
-          (λ p q m. ap₂ name_cmp (below p q) (above n l w) ∙ o.ascending p n (omega arith) w)
-          (λ m. ap₂ name_cmp here (above n l w) ∙ gap.after n l w)
-          (λ p q g m. ap₂ name_cmp (above p q g) (above n l w) ∙ o.ascending p n (omega arith) w)
-          i h
+            (λ p q m. ap₂ name_cmp (below p q) (above n l w) ∙ o.ascending p n (omega arith) w)
+            (λ m. ap₂ name_cmp here (above n l w) ∙ gap.after n l w)
+            (λ p q g m. ap₂ name_cmp (above p q g) (above n l w) ∙ o.ascending p n (omega arith) w)
+            i h
 
     led : (at : ℕ) → at < length names → (lead : Leads names order (get_or names at []) at) → Leads (names ++ name ∷ []) (insert order k (length names)) (get_or (names ++ name ∷ []) at []) at
     led at h lead = elim (cases_lt lead.k k) [
-      inl l ↦ record {
+      | inl l ↦ record {
         k = lead.k;
         within = let n = longer in let w = lead.within in omega arith;
         early = let e = place_below lead.k l in let y = lead.early in omega arith;
@@ -121,7 +121,7 @@ module _ (names : List (List ℕ)) (order : List ℕ) (name : List ℕ) (o : IsN
 
     leads : (at : ℕ) → at < length (names ++ name ∷ []) → Leads (names ++ name ∷ []) (insert order k (length names)) (get_or (names ++ name ∷ []) at []) at
     leads at h = elim (cases_lt at (length names)) [
-      inl l ↦ led at l (o.leads at l)
+      | inl l ↦ led at l (o.leads at l)
       | inr l ↦ record {
         k = k;
         within = let n = longer in let w = gap.within in omega arith;

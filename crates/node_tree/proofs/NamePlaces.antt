@@ -25,7 +25,7 @@ not_itself a b e l = let s = tied_itself nat_list_cmp_total a in let m : name_cm
 -- the order leads to a name at one place
 pub one_place : (names : List (List ℕ)) (order : List ℕ) (i j : ℕ) → IsNameOrder names order → i < length order → j < length order → name_at names order i ≡ name_at names order j → i ≡ j
 one_place names order i j o h k e = elim (cases_order i j) [
-  inl q ↦ q
+  | inl q ↦ q
   | inr (inl l) ↦ absurd (not_itself _ _ e (o.ascending i j l k))
   | inr (inr l) ↦ absurd (not_itself _ _ (sym e) (o.ascending j i l h))
 ]
@@ -45,7 +45,7 @@ pub none_at_gap : (names : List (List ℕ)) (order : List ℕ) (name : List ℕ)
 none_at_gap names order name k at o gap h e =
     let lead = o.leads at h in
     elim (cases_lt lead.k k) [
-      inl l ↦ not_itself _ _ (lead.same ∙ e) (gap.before lead.k l)
+      | inl l ↦ not_itself _ _ (lead.same ∙ e) (gap.before lead.k l)
       | inr l ↦ not_itself _ _ (sym (lead.same ∙ e)) (gap.after lead.k l lead.within)
     ]
 

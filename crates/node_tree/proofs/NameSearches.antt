@@ -47,7 +47,7 @@ module _ (names : List (List ℕ)) (order : List ℕ) (name : List ℕ) (low hig
     within = let w = b.within in omega arith;
     before = b.before;
     after = λ j g w. elim (cases_eq middle j) [
-      inl q ↦ ap (λ i. name_cmp name (name_at names order i)) (sym q) ∙ first
+      | inl q ↦ ap (λ i. name_cmp name (name_at names order i)) (sym q) ∙ first
       | inr n ↦ nat_list_cmp_total.trans name (name_at names order middle) (name_at names order j) first (o.ascending middle j (later j g n) w)
     ];
   }
@@ -63,7 +63,7 @@ module _ (names : List (List ℕ)) (order : List ℕ) (name : List ℕ) (low hig
     ends = omega arith;
     within = b.within;
     before = λ j g. elim (cases_eq j middle) [
-      inl q ↦ ap (λ i. name_cmp (name_at names order i) name) q ∙ last
+      | inl q ↦ ap (λ i. name_cmp (name_at names order i) name) q ∙ last
       | inr n ↦ nat_list_cmp_total.trans (name_at names order j) (name_at names order middle) name (o.ascending j middle (earlier j g n) (let w = b.within in omega arith)) last
     ];
     after = b.after;

@@ -13,7 +13,10 @@ pub fn compare_folded(name: &[u8], other: &[u8]) -> Ordering
         if at >= other.len() {
             return Ordering::Greater;
         }
-        match name[at].to_ascii_lowercase().cmp(&other[at].to_ascii_lowercase()) {
+        match name[at]
+            .to_ascii_lowercase()
+            .cmp(&other[at].to_ascii_lowercase())
+        {
             Ordering::Less => return Ordering::Less,
             Ordering::Greater => return Ordering::Greater,
             Ordering::Equal => {}
