@@ -1,0 +1,10 @@
+pub mod Growing
+pub mod Snoc
+pub mod Numbers
+pub mod Split
+pub mod Heads
+pub mod Joined
+pub mod Statements
+pub mod Parameters
+pub mod Forms
+pub mod Files
