@@ -110,7 +110,7 @@ moved_alone place a m c nodes leaves own_m own_c n x e other = go (can_stand nod
     go false = e
 
 inserted_alone : (a m c : ℕ) (at : ℤ) (nodes : List Node) → AreNodesOwned nodes → owner_of nodes m ≡ Some a → owner_of nodes c ≡ Some a → LeavesOthers a nodes (inserted nodes m c at)
-inserted_alone a m c (pos at) nodes h own_m own_c = moved_alone (At at) a m c nodes (left_alone a c nodes h own_c) own_m own_c
+inserted_alone a m c (pos at) nodes h own_m own_c n x e other = moved_alone (At at) a m c nodes (left_alone a c nodes h own_c) own_m own_c n x e other
 inserted_alone a m c (negsuc at) nodes h own_m own_c n x e other = e
 
 removed_alone : (a m c : ℕ) (nodes : List Node) → owner_of nodes m ≡ Some a → owner_of nodes c ≡ Some a → LeavesOthers a nodes (removed nodes m c)
@@ -131,13 +131,13 @@ added_alone a m f t always nodes own n x e other = go (has_field nodes m f)
 
 add_alone : (a m : ℕ) (f : Text) (o : Option FieldType) (always : Bool) (c : Core) → owner_of c.nodes m ≡ Some a → LeavesOthers a c.nodes (add_field m f o always c).after.core.nodes
 add_alone a m f None always c own n x e other = e
-add_alone a m f (Some t) always c own = added_alone a m f t always c.nodes own
+add_alone a m f (Some t) always c own n x e other = added_alone a m f t always c.nodes own n x e other
 
 set_alone : (a : ℕ) (o : SetResult) (m : ℕ) (f : Text) (v : Tree) (c : Core) → owner_of c.nodes m ≡ Some a → LeavesOthers a c.nodes (set_own_by o m f v c).after.core.nodes
 set_alone a NoField m f v c own n x e other = e
 set_alone a NoFit m f v c own n x e other = e
 set_alone a Same m f v c own n x e other = e
-set_alone a Changed m f v c own = own_change a m (with_fields (fields_after_set f v)) c.nodes own
+set_alone a Changed m f v c own n x e other = own_change a m (with_fields (fields_after_set f v)) c.nodes own n x e other
 
 -- ---- makings
 
@@ -162,24 +162,24 @@ below_alone plans nodes kind a (Some p) own n x e other =
 
 made_alone : (plans : List KindPlan) (kind a : ℕ) (parent : Option ℕ) (o : Option (List Node)) (c : Core) → nodes_made plans c.nodes kind a ≡ o → IfSome (λ p. owner_of c.nodes p ≡ Some a) parent → LeavesOthers a c.nodes (made_own (suc (length c.nodes)) parent o c).after.core.nodes
 made_alone plans kind a parent None c e own n x f other = f
-made_alone plans kind a parent (Some nodes) c e own = subst (λ l. LeavesOthers a c.nodes (below parent l (suc (length c.nodes)))) (room plans c.nodes kind a nodes e) (below_alone plans c.nodes kind a parent own)
+made_alone plans kind a parent (Some nodes) c e own n x f other = subst (λ l. LeavesOthers a c.nodes (below parent l (suc (length c.nodes)))) (room plans c.nodes kind a nodes e) (below_alone plans c.nodes kind a parent own) n x f other
 
 make_alone : (ch : Channel) (a : ℕ) (kind parent : Option ℕ) (c : Core) → IfSome (λ p. owner_of c.nodes p ≡ Some a) parent → LeavesOthers a c.nodes (make_own ch a kind parent c).after.core.nodes
 make_alone ch a None parent c own n x f other = f
-make_alone ch a (Some kind) parent c own =
+make_alone ch a (Some kind) parent c own n x f other =
     let same : suc (length c.nodes) ≡ length c.nodes + 1 = omega arith in
-    subst (λ n. LeavesOthers a c.nodes (made_own n parent (nodes_made ch.plans c.nodes kind a) c).after.core.nodes) same (made_alone ch.plans kind a parent (nodes_made ch.plans c.nodes kind a) c refl own)
+    subst (λ k. LeavesOthers a c.nodes (made_own k parent (nodes_made ch.plans c.nodes kind a) c).after.core.nodes) same (made_alone ch.plans kind a parent (nodes_made ch.plans c.nodes kind a) c refl own) n x f other
 
 -- ---- accesses at own nodes
 
 own_alone : (ch : Channel) (a : ℕ) (access : Access) (c : Core) → AreNodesOwned c.nodes → Receivers (Owns a c.nodes) access → LeavesOthers a c.nodes (own_effect ch a access c).after.core.nodes
-own_alone ch a (q.Make kind) c h own = make_alone ch a (kind_named ch kind) None c tt
-own_alone ch a (q.Create m kind) c h own = make_alone ch a (kind_named ch kind) (Some m) c own
-own_alone ch a (q.Set m f v) c h own = set_alone a (set_of c m f v) m f v c own
-own_alone ch a (q.Add m f word always) c h own = add_alone a m f (type_beside type_words word) always c own
-own_alone ch a (q.Append m child) c h own = moved_alone Last a m child c.nodes (left_alone a child c.nodes h own.1) own.0 own.1
-own_alone ch a (q.Insert m child at) c h own = inserted_alone a m child at c.nodes h own.0 own.1
-own_alone ch a (q.Remove m child) c h own = removed_alone a m child c.nodes own.0 own.1
+own_alone ch a (q.Make kind) c h own n x e other = make_alone ch a (kind_named ch kind) None c tt n x e other
+own_alone ch a (q.Create m kind) c h own n x e other = make_alone ch a (kind_named ch kind) (Some m) c own n x e other
+own_alone ch a (q.Set m f v) c h own n x e other = set_alone a (set_of c m f v) m f v c own n x e other
+own_alone ch a (q.Add m f word always) c h own n x e other = add_alone a m f (type_beside type_words word) always c own n x e other
+own_alone ch a (q.Append m child) c h own n x e other = moved_alone Last a m child c.nodes (left_alone a child c.nodes h own.1) own.0 own.1 n x e other
+own_alone ch a (q.Insert m child at) c h own n x e other = inserted_alone a m child at c.nodes h own.0 own.1 n x e other
+own_alone ch a (q.Remove m child) c h own n x e other = removed_alone a m child c.nodes own.0 own.1 n x e other
 own_alone ch a (q.Get m f) c h own n x e other = e
 own_alone ch a (q.Has m f) c h own n x e other = e
 own_alone ch a (q.Child m at) c h own n x e other = e
@@ -229,38 +229,34 @@ all_same : (a : ℕ) (before after : List Node) → after ≡ before → LeavesO
 all_same a before after same n x e other = ap (λ l. node_at l n) same ∙ e
 
 module _ (ch : Channel) (b : ℕ) (c : Core) (h : AreNodesOwned c.nodes) where
-  Alone : Moved → Type 0
+  abbrev Alone : Moved → Type 0
   Alone m = LeavesOthers (suc b) c.nodes m.core.nodes
 
   access_alone : (local : Bool) (access : Access) → is_local (suc b) access c.nodes ≡ local → Alone (access_by local ch (suc b) access c)
-  unfolding Alone
   access_alone true access e n x f other =
       let o : Effect = own_effect ch (suc b) access c in
       ap (λ l. node_at l n) (answer_alone b o.result o.after.core) ∙ own_alone ch (suc b) access c h (local_receivers (suc b) access c.nodes e) n x f other
   access_alone false access e n x f other = f
 
   ask_alone : (request : Request) → Alone (ask ch (suc b) request c)
-  unfolding Alone
-  ask_alone (Asks access) = access_alone (is_local (suc b) access c.nodes) access refl
-  ask_alone MakePort = all_same (suc b) c.nodes _ (port_alone b (nat_lt (length c.ports) most_ports) c)
-  ask_alone (Wait port limited) = all_same (suc b) c.nodes _ (takes_alone (messages_of c.ports port) port (suc b) c)
-  ask_alone (Poll port) = all_same (suc b) c.nodes _ (takes_alone (messages_of c.ports port) port (suc b) c)
+  ask_alone (Asks access) n x f other = access_alone (is_local (suc b) access c.nodes) access refl n x f other
+  ask_alone MakePort n x f other = all_same (suc b) c.nodes _ (port_alone b (nat_lt (length c.ports) most_ports) c) n x f other
+  ask_alone (Wait port limited) n x f other = all_same (suc b) c.nodes _ (takes_alone (messages_of c.ports port) port (suc b) c) n x f other
+  ask_alone (Poll port) n x f other = all_same (suc b) c.nodes _ (takes_alone (messages_of c.ports port) port (suc b) c) n x f other
 
   shows_alone : (o : Outcome) → Alone (other_shows ch (suc b) o c)
-  unfolding Alone
   shows_alone Went n x f other = f
   shows_alone (Printed text) n x f other = f
-  shows_alone (Asked request) = ask_alone request
-  shows_alone (Raised e at) = all_same (suc b) c.nodes _ (fails_alone b e at c)
-  shows_alone (Returned v) = all_same (suc b) c.nodes _ (leaves_alone b c)
-  shows_alone (TooBig at) = all_same (suc b) c.nodes _ (leaves_alone b c)
+  shows_alone (Asked request) n x f other = ask_alone request n x f other
+  shows_alone (Raised e at) n x f other = all_same (suc b) c.nodes _ (fails_alone b e at c) n x f other
+  shows_alone (Returned v) n x f other = all_same (suc b) c.nodes _ (leaves_alone b c) n x f other
+  shows_alone (TooBig at) n x f other = all_same (suc b) c.nodes _ (leaves_alone b c) n x f other
 
 unless_alone : (a : ℕ) (t : Bool) (c : Core) (m : Moved) → LeavesOthers a c.nodes m.core.nodes → IfLeavesOthers a c (unless t m)
 unless_alone a true c m h = tt
 unless_alone a false c m h = h
 
 other_alone : (ch : Channel) (b : ℕ) (x : Actor) (tree : t.Tree) (c : Core) → AreNodesOwned c.nodes → IfLeavesOthers (suc b) c (step_other ch (suc b) x tree c)
-unfolding Alone
 other_alone ch b x (Waits below) c h = tt
 other_alone ch b x (Works call spot tasks below) c h =
     let s : Reduced = reduce ch.program (suc b) x.homes (Works call spot tasks below) x.store in

@@ -28,7 +28,7 @@ use Rattle.world_meaning.specs.Channel.{Channel, function_at, function_of_node}
 use Rattle.world_meaning.specs.Core as k
 use Rattle.world_meaning.specs.Core.{Closing, Hands, GoesBack, Begun, Init, Next, Answer, Another, EntryEnd, Agenda, Deliveries, Inits, Called, Actor, Core, Moved, actor_at, change_actor, with_agendas, home_of_node, tree_of_actor, store_of_actor, homes_of_actor, waiting_calls}
 use Rattle.world_meaning.specs.Ending.{with_state, handed_if, handed, hand, end_run, ended, end_actor, fail, fail_where, with_closing, close, is_idle_first, answered_at, answer, refused_at, refuse}
-use Rattle.world_meaning.specs.Agendas.{invalid, untaken, settled, settle, settle_with, Left, Came, TooLarge, returned, takes, visited, finished, finish, topped, call_on_top, deliver_to, deliver, call_init, call_handler, visit}
+use Rattle.world_meaning.specs.Agendas.{invalid, yes, untaken, settled, settle, settle_with, Left, Came, TooLarge, returned, takes, visited, finished, finish, topped, call_on_top, deliver_to, deliver, call_init, call_handler, visit}
 use Rattle.owner_laws.specs.Owners.{IsActorOwned, IsAgendaOwned, IsClosingOwned, Owners}
 use Rattle.owner_laws.proofs.Naming.{each_append, each_index, each_set, reply_more}
 use Rattle.owner_laws.proofs.Places.{of_render, reply_owned, put_owned, actor_change, with_jobs, with_ports, with_begun}
@@ -89,7 +89,7 @@ refused_owned false e at c r = fail_first_where e at c r
 pub refuse_owned : (e : ErrorCode) (at : Option Place) (c : Core) → Owners c → Owners (refuse e at c).core
 refuse_owned e at c r = refused_owned (is_idle_first c) e at c r
 
-LeftNames : (ℕ → Type 0) → Left → Type 0
+abbrev pub LeftNames : (ℕ → Type 0) → Left → Type 0
 LeftNames S (Came v) = TreeNames S v
 LeftNames S (TooLarge at) = Unit {0}
 
@@ -148,12 +148,11 @@ module _ (answers : AnswerNames) where
   settle_with_owned G c h r = settled_owned G (with_agendas G c) h (with_jobs c G h r)
 
   returned_owned : (v : Left) (c : Core) → LeftNames (Of 0 c.nodes) v → Owners c → Owners (returned v c).core
-  unfolding LeftNames
   returned_owned (Came v) c h r = answer_owned (Value v) c h r
   returned_owned (TooLarge at) c h r = refuse_owned E9 (Some at) c r
 
   visited_owned : (taken : Bool) (button : Key) (press : Bool) (n : ℕ) (left : List ℕ) (later : List Agenda) (c : Core) → Each (Of 0 c.nodes) left → Each (IsAgendaOwned c.nodes) later → Owners c → Owners (visited taken button press n left later c).core
-  visited_owned true button press n left later c h k r = closes_owned (Hands (Value _)) (with_agendas later c) tt (with_jobs c later k r)
+  visited_owned true button press n left later c h k r = closes_owned (Hands (Value yes)) (with_agendas later c) tt (with_jobs c later k r)
   visited_owned false button press n left later c h k r = settle_with_owned (k.Visits button press None left ∷ later) c ((tt, h), k) r
 
   finished_owned : (v : Left) (G : List Agenda) (c : Core) → LeftNames (Of 0 c.nodes) v → Each (IsAgendaOwned c.nodes) G → Owners c → Owners (finished v G c).core
@@ -165,11 +164,9 @@ module _ (answers : AnswerNames) where
   finished_owned v (k.Visits button press None left ∷ later) c l h r = r
 
   pub came_owned : (v : Tree) (c : Core) → TreeNames (Of 0 c.nodes) v → Owners c → Owners (finish (Came v) c).core
-  unfolding LeftNames
   came_owned v c h r = finished_owned (Came v) c.agendas c h r.jobs r
 
   pub too_large_owned : (at : Place) (c : Core) → Owners c → Owners (finish (TooLarge at) c).core
-  unfolding LeftNames
   too_large_owned at c r = finished_owned (TooLarge at) c.agendas c tt r.jobs r
 
   -- ---- calls on top

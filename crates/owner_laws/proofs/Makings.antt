@@ -4,7 +4,7 @@ use Rattle.std.specs.Prelude.{slice_get, option_map, option_and_then, codes}
 use Rattle.chan_values.specs.Tree.{NodeNumber, Leaf}
 use Rattle.field_types.specs.Plans.{IsPlanTable}
 use Rattle.field_observers.specs.InTime.{Observer}
-use Rattle.heap_meaning.specs.Values.{Entry}
+use Rattle.heap_meaning.specs.Values.{Reference, Entry}
 use Rattle.heap_meaning.specs.Store.{Object}
 use Rattle.node_tree.specs.declared.node.Node.{Node}
 use Rattle.node_tree.specs.Nodes.{node_at, owner_of}
@@ -28,7 +28,7 @@ home_owned : (nodes : List Node) (n scope : ℕ) (x : Actor) → owner_of nodes 
 home_owned nodes n scope x global o h = record {
   calls = h.calls;
   store = each_append (ObjectNames (Of 0 nodes)) x.store (m_of n ∷ []) h.store ((inl global, (o, tt)), tt);
-  homes = each_append (λ y. ValueNames (Of 0 nodes) y.m) x.homes _ h.homes (tt, tt);
+  homes = each_append (λ y. ValueNames (Of 0 nodes) y.m) x.homes (record { scope = scope; m = Reference (length x.store) } ∷ []) h.homes (tt, tt);
   task = h.task;
 }
 
