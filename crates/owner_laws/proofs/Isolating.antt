@@ -55,16 +55,16 @@ some_same e = cc
 -- ---- one node changes
 
 at_other : (f : Node → Node) (xs : List Node) (i j : ℕ) (x : Node) → (i ≡ j → ⊥) → slice_get xs j ≡ Some x → slice_get (changed f xs i) j ≡ Some x
-at_other f [] i j x no e = e
-at_other f (y ∷ xs) zero zero x no e = absurd (no refl)
-at_other f (y ∷ xs) zero (suc j) x no e = e
-at_other f (y ∷ xs) (suc i) zero x no e = e
-at_other f (y ∷ xs) (suc i) (suc j) x no e = at_other f xs i j x (λ p. no (ap suc p)) e
+at_other f [] i j x apart e = e
+at_other f (y ∷ xs) zero zero x apart e = absurd (apart refl)
+at_other f (y ∷ xs) zero (suc j) x apart e = e
+at_other f (y ∷ xs) (suc i) zero x apart e = e
+at_other f (y ∷ xs) (suc i) (suc j) x apart e = at_other f xs i j x (λ p. apart (ap suc p)) e
 
 other_node : (f : Node → Node) (nodes : List Node) (m n : ℕ) (x : Node) → (m ≡ n → ⊥) → node_at nodes n ≡ Some x → node_at (with_node f nodes m) n ≡ Some x
-other_node f nodes zero n x no e = e
-other_node f nodes (suc i) zero x no e = e
-other_node f nodes (suc i) (suc j) x no e = at_other f nodes i j x (λ p. no (ap suc p)) e
+other_node f nodes zero n x apart e = e
+other_node f nodes (suc i) zero x apart e = e
+other_node f nodes (suc i) (suc j) x apart e = at_other f nodes i j x (λ p. apart (ap suc p)) e
 
 -- a node with another owner isn't this one
 differs : (a m n : ℕ) (nodes : List Node) (x : Node) → owner_of nodes m ≡ Some a → node_at nodes n ≡ Some x → x.owner ≢ a → m ≡ n → ⊥

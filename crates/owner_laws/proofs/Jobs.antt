@@ -125,6 +125,7 @@ module _ (answers : AnswerNames) where
   untaken_owned c key.FastForward press = tt
   untaken_owned c key.Replay press = tt
   untaken_owned c key.Options press = tt
+  untaken_owned c (key.Literal character) press = tt
 
   pub settled_owned : (G : List Agenda) (c : Core) → Each (IsAgendaOwned c.nodes) G → Owners c → Owners (settled G c).core
   settled_owned [] c h r = r
@@ -152,8 +153,8 @@ module _ (answers : AnswerNames) where
   returned_owned (TooLarge at) c h r = refuse_owned E9 (Some at) c r
 
   visited_owned : (taken : Bool) (button : Key) (press : Bool) (n : ℕ) (left : List ℕ) (later : List Agenda) (c : Core) → Each (Of 0 c.nodes) left → Each (IsAgendaOwned c.nodes) later → Owners c → Owners (visited taken button press n left later c).core
-  visited_owned true button press n left later c h k r = closes_owned (Hands (Value yes)) (with_agendas later c) tt (with_jobs c later k r)
-  visited_owned false button press n left later c h k r = settle_with_owned (k.Visits button press None left ∷ later) c ((tt, h), k) r
+  visited_owned true button press n left later c h rest r = closes_owned (Hands (Value yes)) (with_agendas later c) tt (with_jobs c later rest r)
+  visited_owned false button press n left later c h rest r = settle_with_owned (k.Visits button press None left ∷ later) c ((tt, h), rest) r
 
   finished_owned : (v : Left) (G : List Agenda) (c : Core) → LeftNames (Of 0 c.nodes) v → Each (IsAgendaOwned c.nodes) G → Owners c → Owners (finished v G c).core
   finished_owned v [] c l h r = r

@@ -178,7 +178,7 @@ module _ (S T : ℕ → Type 0) (wider : (n : ℕ) → S n → T n) where
   one_held_more : (x : Held) → HeldNames S x → HeldNames T x
   one_held_more x h = (call_more x.call h.0, hole_more x.hole h.1, tasks_more x.tasks h.2)
 
-  held_more : (xs : List Held) → Each (HeldNames S) xs → Each (HeldNames T) xs
+  pub held_more : (xs : List Held) → Each (HeldNames S) xs → Each (HeldNames T) xs
   held_more xs h = each_to (HeldNames S) (HeldNames T) one_held_more xs h
 
   pub calls_more : (tree : k.Tree) → CallsName S tree → CallsName T tree

@@ -23,7 +23,7 @@ module _ (ch : Channel) (bound : ℕ) where
 
   moment_event : (w v : World) → Moment ch bound w v → (e : Event) × (happens ch bound e w ≡ v)
   moment_event w v (Steps actor m e less is) = (event.Turn actor 1, one_step actor m w true e (lt-ltb w.steps bound less) ∙ sym is)
-  moment_event w v (RunsOut actor m e most is) = (event.Turn actor 1, one_step actor m w false e (le-ltb bound w.steps most) ∙ sym is)
+  moment_event w v (RunsOut actor m e most is) = (event.Turn actor 1, one_step actor m w false e (le-ltb w.steps bound most) ∙ sym is)
   moment_event w v (KeyComes key press is) = (event.Key key press, sym is)
   moment_event w v (Expires actor is) = (event.Expire actor, sym is)
 

@@ -70,7 +70,7 @@ counted_by : (n m : ℕ) (w : World) → n ≡ m → IsCounted n w → IsCounted
 counted_by n m w e h = subst (λ k. IsCounted k w) e h
 
 after_counts : EventCounts → (ch : Channel) (bound n : ℕ) (events : List Event) (w : World) → IsCounted n w → IsCounted (length events + n) (after ch bound events w)
-after_counts counting ch bound n [] w h = h
+after_counts counting ch bound n [] w h = let same : n ≡ 0 + n = omega arith in counted_by n (0 + n) w same h
 after_counts counting ch bound n (e ∷ events) w h =
     let v : World = happens ch bound e w in
     let same : length events + suc n ≡ length (e ∷ events) + n = omega arith in
