@@ -1,5 +1,4 @@
 mod FirstExamples
-mod ManifestExamples
 pub mod FirstBodies
 pub mod FirstRuns
 pub mod FirstSteps
@@ -9,7 +8,6 @@ pub mod FolderReads
 pub mod InputReads
 pub mod Lines
 pub mod LocalLemmas
-pub mod ManifestLines
 pub mod FirstLive
 pub mod Moves
 pub mod Progress

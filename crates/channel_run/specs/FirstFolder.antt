@@ -7,7 +7,7 @@ use Rattle.first_form.specs.declared.tree.FirstMain.{FirstMain}
 use Rattle.channel_run.specs.declared.folder.TwoFiles.{TwoFiles}
 use Rattle.channel_run.specs.FirstFiles.{two_files}
 use Rattle.first_form.specs.FirstSource.{first_main_of}
-use Rattle.channel_run.specs.Manifest.{is_good_manifest}
+use Rattle.folder_files.specs.Manifest.{is_good_manifest}
 
 -- the tree of a folder's Main, where its manifest has no bad line and neither file is too long
 abbrev pub first_in : FileRead → FileRead → Option FirstMain

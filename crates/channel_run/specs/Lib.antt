@@ -8,8 +8,6 @@ pub mod FirstLocals
 pub mod FirstMeaning
 pub mod FirstText
 pub mod Input
-pub mod Listing
-pub mod Manifest
 pub mod Output
 pub mod Script
 pub mod Status

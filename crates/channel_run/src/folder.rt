@@ -6,12 +6,12 @@ ghost use Rattle.outside.specs.Folder.{IsWithin, content_of, whole_path, read_of
 ghost use Rattle.channel_run.specs.FirstFiles.{is_first_listing, held_by, two_files};
 ghost use Rattle.channel_run.specs.FirstFolder.{first_of_files, first_folder};
 ghost use Rattle.first_form.specs.FirstNames.{names_set};
-ghost use Rattle.channel_run.specs.Listing.{ListsAtMost};
+ghost use Rattle.folder_files.specs.Answers.{ListsAtMost};
 
-use crate::manifest::is_good_manifest;
 use chan_values::{NoMemory, Text};
 use first_form::first_main;
 use first_form::tree::FirstMain;
+use folder_files::is_good_manifest;
 use outside::faults::FilesFault;
 use outside::files::{FileRead, Files};
 use outside::paths::whole_path;

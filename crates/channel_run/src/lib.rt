@@ -7,7 +7,6 @@ pub mod first_laws;
 mod first_run;
 mod folder;
 mod input;
-mod manifest;
 mod output;
 mod run;
 mod script;

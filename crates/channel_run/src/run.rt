@@ -7,7 +7,7 @@ ghost use Rattle.outside.specs.Causes.{Stayed, CountsFault};
 ghost use Rattle.first_form.specs.FirstNames.{names_set};
 ghost use Rattle.channel_run.specs.Answer.{answer_of, run_text, IsThrough};
 ghost use Rattle.channel_run.specs.Command.{Run, run_of};
-ghost use Rattle.channel_run.specs.Listing.{ListsAtMost};
+ghost use Rattle.folder_files.specs.Answers.{ListsAtMost};
 ghost use Rattle.channel_run.specs.Output.{AppendsPrefix};
 ghost use Rattle.channel_run.specs.Status.{Counts, IsCaused};
 ghost use Rattle.channel_run.specs.Written.{ForRun, HasScript};

@@ -334,6 +334,14 @@ fn a_refusal_says_what_is_given(rt: HostRuntime) {
         (2, "source/a.brs", 0, 0, "", "> refused F2 source/a.brs"),
         (6, "source/a.brs", 9, 4, "", "> refused F6 source/a.brs:9:4"),
         (
+            10,
+            "components/a.xml",
+            1,
+            0,
+            "",
+            "> refused F10 components/a.xml:1 ",
+        ),
+        (
             5,
             "source/main.brs",
             2,

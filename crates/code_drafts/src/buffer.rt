@@ -9,7 +9,6 @@ use std::marker::Model;
 
 /// Code that is made from its last instruction to its first, so that each jump forward knows how far it leads. Contracts see the list
 /// from the first instruction on.
-#[derive(Drop)]
 pub struct Buffer {
     items: Items<Draft>,
 }
@@ -25,6 +24,13 @@ impl Model for Buffer {
     ghost coded = { Prim.hlevel (codes, d.the_row.coded) };
 
     ghost view = { λ b. reverse b.items };
+}
+
+// By hand, since a caller then calls it where a derived one would be written out at each way out.
+impl Drop for Buffer {
+    fn drop(self) {
+        let Buffer { items: _items } = self;
+    }
 }
 
 impl Buffer {

@@ -1,3 +1,4 @@
+pub mod Unlike
 pub mod Machine
 pub mod Sound
 pub mod Leads

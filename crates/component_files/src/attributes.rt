@@ -5,10 +5,10 @@ ghost use Rattle.xml_pieces.specs.Reads.{Answers};
 ghost use Rattle.xml_pieces.specs.Written.{has_name};
 
 use crate::element::AttributeTextList;
-use chan_values::{NoMemory, Text};
+use chan_values::{NoMemory, Text, fold_name};
 use sqlite_items::Items;
 use std::alloc::Global;
-use xml_pieces::{AttributeText, ReadError};
+use xml_pieces::{AttributeText, NameSet, ReadError};
 
 /// Whether two names are written the same.
 pub(crate) fn same(a: &[u8], b: &[u8]) -> bool
@@ -92,24 +92,20 @@ pub(crate) fn needed(
     }
 }
 
-/// Whether an attribute's name differs from this one at most in the case of its letters.
-fn has_alike(attributes: &[AttributeText], name: &Text) -> bool
-    ensures { result ≡ spec.has_alike attributes.now name.now }
+/// Whether no two attributes have one name, case aside. A tag may have many, so each name is looked for among those behind it in a set.
+pub(crate) fn are_unlike(alloc: Global, attributes: &[AttributeText]) -> Result<bool, NoMemory>
+    ensures { IfOk result (λ unlike. unlike ≡ spec.are_unlike attributes.now) }
 {
-    attributes.iter().any(|a| are_alike(&a.name, name))
-}
-
-/// Whether no two attributes have one name, case aside.
-pub(crate) fn are_unlike(mut attributes: &[AttributeText]) -> bool
-    ensures { result ≡ spec.are_unlike attributes.entry.now }
-{
-    while let [a, more @ ..] = attributes {
-        if has_alike(more, &a.name) {
-            return false;
+    let mut behind = NameSet::new(alloc);
+    let mut rest = attributes;
+    while let [front @ .., last] = rest {
+        let name = fold_name(alloc, last.name.as_str().as_bytes())?;
+        if !behind.add(name)? {
+            return Ok(false);
         }
-        attributes = more;
+        rest = front;
     }
-    true
+    Ok(true)
 }
 
 /// Whether a colon stands in a name.

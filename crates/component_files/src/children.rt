@@ -45,7 +45,7 @@ pub(crate) fn open_child(
 ) -> Result<State, ReadError>
     ensures { Answers (spec.opened (State.Children file stack) tag place) result }
 {
-    if stack.len() >= MAX_DEPTH || !are_unlike(tag.attributes.as_slice()) {
+    if stack.len() >= MAX_DEPTH || !are_unlike(alloc, tag.attributes.as_slice())? {
         return Err(ReadError::Fault);
     }
     let attributes = without_colons(alloc, tag.attributes.as_slice())?;

@@ -1,3 +1,4 @@
+mod ManifestExamples
 pub mod Sizes
 pub mod Gathering
 pub mod Reading

@@ -1,6 +1,6 @@
 -- What a manifest's lines have to be.
 use Rattle.std.specs.Prelude.{ℕ, Bool, true, ◌||◌, ◌+◌, ◌==◌, List, [], ◌∷◌, ◌++◌, reverse, if◌then◌else◌, codes, Option, Some, None, slice_get}
-use Rattle.std.specs.List.{list_any, slice_split}
+use Rattle.std.specs.List.{list_any, list_all, slice_split}
 use Rattle.chan_values.specs.declared.folder_fault.FolderFault.{FolderFault}
 use Rattle.outside.specs.declared.files.FileBytes.{FileBytes}
 use Rattle.outside.specs.Folder.{content_of}
@@ -29,6 +29,9 @@ is_good_line line = is_good_trimmed (trimmed line)
 -- Lines end before an LF, and the last may lack it. Behind a last LF stands an empty line, which is good.
 abbrev pub lines_of : List ℕ → List (List ℕ)
 lines_of bytes = slice_split (λ b. b == 10) bytes
+
+abbrev pub is_good_manifest : List ℕ → Bool
+is_good_manifest bytes = list_all is_good_line (lines_of bytes)
 
 abbrev pub line_fault : ℕ → FolderFault
 line_fault line = record { number = 4; path = codes "manifest"; line = line; column = 0; name = [] }

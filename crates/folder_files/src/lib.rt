@@ -7,5 +7,5 @@ mod manifest;
 mod read;
 
 pub use answer::FolderAnswer;
-pub use manifest::first_manifest_fault;
+pub use manifest::{first_manifest_fault, is_good_manifest};
 pub use read::read_folder;

@@ -36,6 +36,15 @@ fn is_good_line(line: &[u8]) -> bool
     true
 }
 
+/// Whether each line of a manifest is empty, a comment or a pair of a key and a value. The bytes need not be UTF-8. Takes no memory.
+///
+/// Source: Roku developer documentation, "Channel manifest": a line is `key=value`, and comments begin with `#`.
+pub fn is_good_manifest(bytes: &[u8]) -> bool
+    ensures { result ≡ spec.is_good_manifest bytes.now }
+{
+    bytes.split(|b| *b == b'\n').all(|line| is_good_line(line))
+}
+
 /// How many lines stand before the first bad one, where there is a bad one.
 fn lines_before_a_bad_one(bytes: &[u8]) -> Option<usize>
     ensures { result ≡ position_from (λ line. not (spec.is_good_line line)) 0 (spec.lines_of bytes.now) }

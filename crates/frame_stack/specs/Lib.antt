@@ -2,4 +2,3 @@ pub mod Operand
 pub mod Layout
 pub mod Frame
 pub mod Cutting
-pub mod References

@@ -26,6 +26,8 @@ pub struct CallHead {
     pub kind: CallKind,
     /// The number of its function.
     pub function: usize,
+    /// The place of that function's path in the listing of files.
+    pub path: u32,
     /// The number of its home.
     pub home: u32,
     /// The place of its next instruction.

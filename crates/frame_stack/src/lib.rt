@@ -9,5 +9,5 @@ mod stack;
 
 pub use each::{Each, KeyList};
 pub use header::{CallHead, CallKind, Landing};
-pub use operands::{Operand, Operands};
+pub use operands::Operand;
 pub use stack::{FrameStack, MAX_CALLS};

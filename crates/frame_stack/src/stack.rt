@@ -6,7 +6,8 @@ ghost use Rattle.frame_stack.specs.Frame.{slot_value, with_head, with_m, with_op
 ghost use Rattle.frame_stack.specs.Cutting.{headers_of};
 
 use crate::header::Header;
-use crate::{CallHead, Each, Operand, Operands};
+use crate::operands::Operands;
+use crate::{CallHead, Each, Operand};
 use brs_heap::Value;
 use chan_values::NoMemory;
 use std::alloc::Global;

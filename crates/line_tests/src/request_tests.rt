@@ -2,6 +2,7 @@
 use chan_values::Key;
 use ecp_requests::{Request, read_request, reply, write_key_lines};
 use std::alloc::{AllocError, Global};
+use std::process::Abort;
 use std::test::Fail;
 
 fn head_of(alloc: Global, method: &str, target: &str) -> Result<String, AllocError> {
@@ -13,6 +14,13 @@ fn tap(key: Key) -> Request {
         key,
         press: true,
         release: true,
+    }
+}
+
+/// A head that is cut at any place waits for more.
+fn waits_for_its_end(rt: &impl Abort, head: &[u8]) {
+    for cut in 0..head.len() {
+        assert_eq!(rt; read_request(&head[..cut]), Request::More);
     }
 }
 
@@ -50,6 +58,7 @@ fn targets_ask_for_keys(rt: HostRuntime) -> Result<(), Fail> {
         ("/keypress/Lit_+", tap(Key::Literal('+'))),
         ("/keypress/Lit_%c3%A9", tap(Key::Literal('é'))),
         ("/keypress/Lit_é", tap(Key::Literal('é'))),
+        ("/keypress/Lit_%E2%82%AC", tap(Key::Literal('€'))),
         ("/keypress/Lit_%F0%9F%8E%AC", tap(Key::Literal('🎬'))),
         ("/keypress/Home", Request::Leave),
         ("/keyup/home", Request::Leave),
@@ -71,13 +80,77 @@ fn targets_ask_for_keys(rt: HostRuntime) -> Result<(), Fail> {
     for (target, want) in cases {
         let head = head_of(rt.alloc(), "POST", target)?;
         assert_eq!(rt; read_request(head.as_bytes()), want, "{target}");
-        let head = head_of(rt.alloc(), "GET", target)?;
+        waits_for_its_end(&rt, head.as_bytes());
         let other = if want == Request::NotFound {
             Request::NotFound
         } else {
             Request::BadMethod
         };
-        assert_eq!(rt; read_request(head.as_bytes()), other, "{target}");
+        for method in ["GET", "HEAD"] {
+            let head = head_of(rt.alloc(), method, target)?;
+            assert_eq!(rt; read_request(head.as_bytes()), other, "{target}");
+        }
+    }
+    Ok(())
+}
+
+/// The name with capitals where the bits of the number, from the last one on, are set.
+fn spelled(alloc: Global, name: &str, number: u32) -> Result<String, AllocError> {
+    let mut text = String::new(alloc);
+    let mut bits = number;
+    for letter in name.chars() {
+        text.push(if bits % 2 == 1 {
+            letter.to_ascii_uppercase()
+        } else {
+            letter
+        })?;
+        bits /= 2;
+    }
+    Ok(text)
+}
+
+/// How many spellings a name of so many letters has.
+fn spellings(name: &str) -> u32 {
+    let mut count: u32 = 1;
+    for _ in name.chars() {
+        count = count.wrapping_mul(2);
+    }
+    count
+}
+
+#[test]
+fn names_of_keys_are_read_in_each_case_of_their_letters(rt: HostRuntime) -> Result<(), Fail> {
+    let names = [
+        ("up", Key::Up),
+        ("down", Key::Down),
+        ("left", Key::Left),
+        ("right", Key::Right),
+        ("back", Key::Back),
+        ("play", Key::Play),
+        ("select", Key::Ok),
+        ("rev", Key::Rewind),
+        ("fwd", Key::FastForward),
+        ("instantreplay", Key::Replay),
+        ("info", Key::Options),
+    ];
+    for (name, key) in names {
+        for number in 0..spellings(name) {
+            let name = spelled(rt.alloc(), name, number)?;
+            for (command, press, release) in [
+                ("keypress", true, true),
+                ("keydown", true, false),
+                ("keyup", false, true),
+            ] {
+                let target = format!(in rt.alloc(); "/{command}/{name}")?;
+                let head = head_of(rt.alloc(), "POST", target.as_str())?;
+                let want = Request::Keys {
+                    key,
+                    press,
+                    release,
+                };
+                assert_eq!(rt; read_request(head.as_bytes()), want);
+            }
+        }
     }
     Ok(())
 }
@@ -85,11 +158,8 @@ fn targets_ask_for_keys(rt: HostRuntime) -> Result<(), Fail> {
 #[test]
 fn a_head_decides_at_its_end(rt: HostRuntime) -> Result<(), Fail> {
     let head = head_of(rt.alloc(), "POST", "/keypress/Up")?;
-    let bytes = head.as_bytes();
-    for cut in 0..bytes.len() {
-        assert_eq!(rt; read_request(&bytes[..cut]), Request::More);
-    }
-    assert_eq!(rt; read_request(bytes), tap(Key::Up));
+    waits_for_its_end(&rt, head.as_bytes());
+    assert_eq!(rt; read_request(head.as_bytes()), tap(Key::Up));
     let cases: [(&[u8], Request); 9] = [
         (b"", Request::More),
         (b"\r\n\n\r\n", Request::More),

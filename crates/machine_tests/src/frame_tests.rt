@@ -28,6 +28,7 @@ fn head(function: usize) -> CallHead {
     CallHead {
         kind: CallKind::Inner,
         function,
+        path: 0,
         home: 0,
         place: 0,
         line: 0,

@@ -4,4 +4,8 @@
 #![tactic(auto)]
 
 #[cfg(test)]
+mod action_tests;
+#[cfg(test)]
 mod frame_tests;
+#[cfg(test)]
+mod release_tests;

@@ -1,4 +1,4 @@
-//! The tests of the faults of scripts and functions.
+//! The tests of the faults of scripts and functions, and of the order of all kinds of faults.
 //!
 //! They stand in a crate of their own, since a crate with tests is proved twice.
 #![tactic(auto)]
@@ -9,5 +9,7 @@ mod chains;
 mod checks;
 #[cfg(test)]
 mod folders;
+#[cfg(test)]
+mod order_tests;
 #[cfg(test)]
 mod tests;

@@ -3,5 +3,6 @@ pub mod Basics
 pub mod Values
 pub mod Tags
 pub mod Pieces
+pub mod Distinct
 pub mod Runs
 pub mod Loops

@@ -1,4 +1,5 @@
 pub mod Written
+pub mod Names
 pub mod Parts
 pub mod Reading
 pub mod Reads

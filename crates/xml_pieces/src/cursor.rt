@@ -264,7 +264,7 @@ impl<'a> Cursor<'a> {
     {
         let name = self.some_of(Class::TagName)?;
         let attributes = self.attributes(alloc)?;
-        if !are_distinct(attributes.as_slice()) {
+        if !are_distinct(alloc, attributes.as_slice())? {
             return Err(ReadError::Fault);
         }
         let name = text_of(alloc, name)?;

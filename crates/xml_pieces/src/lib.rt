@@ -6,6 +6,7 @@
 mod bytes;
 mod cursor;
 mod laws;
+mod name_set;
 mod names;
 mod part;
 mod piece;
@@ -15,6 +16,7 @@ mod texts;
 pub use bytes::strip;
 pub use cursor::Cursor;
 pub use laws::{read_pieces_were_written, written_pieces_are_read};
+pub use name_set::NameSet;
 pub use part::Part;
 pub use piece::{AttributeText, Piece, Tag};
 pub use read_error::ReadError;

@@ -1,27 +1,33 @@
 //! Names that no two attributes of a tag may share.
-ghost use Rattle.std.specs.Prelude.{◌≡◌};
+ghost use Rattle.std.specs.Prelude.{◌≡◌, IfOk};
 ghost use Rattle.xml_pieces.specs.Written as spec;
 
-use crate::bytes::same;
+use crate::name_set::NameSet;
 use crate::piece::AttributeText;
-use chan_values::Text;
+use chan_values::{NoMemory, Text};
+use std::alloc::Global;
 
-/// Whether an attribute has this name.
-fn has_name(attributes: &[AttributeText], name: &Text) -> bool
-    ensures { result ≡ spec.has_name attributes.now name.now }
+/// A copy of a name.
+fn copy(alloc: Global, name: &Text) -> Result<Text, NoMemory>
+    ensures { IfOk result (λ made. made ≡ name.now) }
 {
-    attributes.iter().any(|a| same(a.name.as_str().as_bytes(), name.as_str().as_bytes()))
+    let mut made = Text::new(alloc);
+    made.push_str(name.as_str())?;
+    Ok(made)
 }
 
-/// Whether no two attributes have one name.
-pub(crate) fn are_distinct(mut attributes: &[AttributeText]) -> bool
-    ensures { result ≡ spec.are_distinct attributes.entry.now }
+/// Whether no two attributes have one name. A tag may have many, so each name is looked for among those behind it in a set.
+pub(crate) fn are_distinct(alloc: Global, attributes: &[AttributeText]) -> Result<bool, NoMemory>
+    ensures { IfOk result (λ distinct. distinct ≡ spec.are_distinct attributes.now) }
 {
-    while let [a, more @ ..] = attributes {
-        if has_name(more, &a.name) {
-            return false;
+    let mut behind = NameSet::new(alloc);
+    let mut rest = attributes;
+    while let [front @ .., last] = rest {
+        let name = copy(alloc, &last.name)?;
+        if !behind.add(name)? {
+            return Ok(false);
         }
-        attributes = more;
+        rest = front;
     }
-    true
+    Ok(true)
 }

@@ -3,7 +3,7 @@ use Rattle.plain_operations.specs.Names.{beside}
 use Rattle.plain_operations.proofs.names.value_beside.Given as goal
 
 abbrev pub invariant-loop-rows : goal.invariant-loop-rows
-invariant-loop-rows l = beside (map (λ row. (row.0.now, row.1)) l.rows) l.name ≡ beside (map (λ row. (row.0.now, row.1)) l.initial.rows) l.name
+invariant-loop-rows g l = beside (map (λ row. (row.0.now, row.1)) l.rows) l.name ≡ beside (map (λ row. (row.0.now, row.1)) l.initial.rows) l.name
 
 abbrev pub decreases-loop-rows : goal.decreases-loop-rows
-decreases-loop-rows l = length l.rows
+decreases-loop-rows g l = length l.rows
