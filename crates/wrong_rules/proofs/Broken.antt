@@ -23,7 +23,7 @@ first_number : List EntryName → ℕ
 first_number [] = 0
 first_number (n ∷ ns) = number_of n
 
-one_is_two : 1 ≡ 2 → ⊥
+one_is_two : ◌≡◌ {A = ℕ} 1 2 → ⊥
 one_is_two e = omega (arith, e)
 
 pub newest_breaks : NewestFirstBreaks
@@ -68,11 +68,11 @@ is_zero : Option ℕ → Bool
 is_zero None = false
 is_zero (Some n) = n == 0
 
-two_is_zero : Some 2 ≡ Some 0 → ⊥
+two_is_zero : ◌≡◌ {A = Option ℕ} (Some 2) (Some 0) → ⊥
 unfolding is_zero
 two_is_zero e = no (ap is_zero e)
 
-either : (Some 2 ≡ Some 0) ⊎ (Some 2 ≡ Some 0) → ⊥
+either : (◌≡◌ {A = Option ℕ} (Some 2) (Some 0)) ⊎ (◌≡◌ {A = Option ℕ} (Some 2) (Some 0)) → ⊥
 either (inl e) = two_is_zero e
 either (inr e) = two_is_zero e
 
