@@ -1,0 +1,13 @@
+mod Naming
+mod Copies
+mod Values
+mod Places
+mod Kin
+mod Jobs
+mod Changes
+mod Makings
+mod Accesses
+mod Own
+mod Steps
+mod Events
+mod Isolating
