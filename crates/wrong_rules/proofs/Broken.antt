@@ -1,18 +1,14 @@
 -- Each wrong rule breaks its law.
-use Rattle.std.proofs.Common.{◌≡◌, ◌⊎◌, inl, inr, ℕ, zero, suc, ◌+◌, Bool, true, false, List, [], ◌∷◌, ◌++◌, Option, Some, None, refl, sym, ap, ◌∙◌, subst, arith}
+use Rattle.std.proofs.Common.{◌≡◌, ◌⊎◌, inl, inr, ℕ, zero, suc, Bool, true, false, List, [], ◌∷◌, Option, Some, None, refl, sym, ap, subst, arith}
 use Rattle.std.specs.Prelude.{◌==◌}
-use Rattle.chan_values.specs.Tree.{Tree, Leaf, Invalid, NodeNumber}
+use Rattle.chan_values.specs.Tree.{Leaf, NodeNumber}
 use Rattle.field_observers.specs.declared.target.Registration.{Registration}
 use Rattle.trace_report.specs.declared.entry.EntryName.{EntryName}
 use Rattle.node_tree.specs.declared.node.Node.{Node}
-use Rattle.node_tree.specs.Nodes.{node_at, owner_of}
-use Rattle.node_tree.specs.Owned.{Of, IsNodeOwned, AreNodesOwned}
-use Rattle.brs_grammar.specs.Form.{Text}
-use Rattle.world_meaning.specs.Channel.{Channel}
+use Rattle.node_tree.specs.Owned.{IsNodeOwned, AreNodesOwned}
 use Rattle.world_meaning.specs.Core.{number_of}
-use Rattle.channel_meaning.specs.History.{Change, Visit, Walk}
 use Rattle.channel_laws.specs.Laws.{Phase}
-use Rattle.wrong_rules.specs.Wrong.{newest_first, posts_twice, taken_at_delivery, visits_both, node_with, two_of_a_task, given_along_children, given_back, NewestFirstBreaks, DoneAtPostBreaks, TakenAtDeliveryBreaks, GoesOnAfterTrueBreaks, AlongChildrenBreaks, GivenBackBreaks}
+use Rattle.wrong_rules.specs.Wrong.{node_with, two_of_a_task, NewestFirstBreaks, DoneAtPostBreaks, AccessStaysBreaks, TakenAtDeliveryBreaks, GoesOnAfterTrueBreaks, AlongChildrenBreaks, GivenBackBreaks}
 
 no : false ≡ true → ⊥
 no e = cc
@@ -39,6 +35,10 @@ is_there (Some p) = true
 pub at_post_breaks : DoneAtPostBreaks
 unfolding is_there
 at_post_breaks ch h = no (ap is_there h.1)
+
+pub after_stop_breaks : AccessStaysBreaks
+unfolding is_there
+after_stop_breaks ch h = no (ap is_there h.1)
 
 -- ---- deliveries
 

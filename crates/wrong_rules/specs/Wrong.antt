@@ -1,5 +1,5 @@
 -- Rules that a run doesn't have, and the laws that they would break.
-use Rattle.std.specs.Prelude.{◌≡◌, ℕ, suc, ◌+◌, Bool, true, false, List, [], ◌∷◌, ◌++◌, Option, Some, None, length}
+use Rattle.std.specs.Prelude.{ℕ, ◌+◌, Bool, true, false, List, [], ◌∷◌, ◌++◌, map, Option, None, length}
 use Rattle.chan_values.specs.declared.event.Event.TheVariants as event
 use Rattle.chan_values.specs.declared.key.Key.{Key}
 use Rattle.chan_values.specs.declared.key.Key.TheVariants as key
@@ -15,13 +15,13 @@ use Rattle.node_tree.specs.Owned.{OnlyToRender, AreNodesOwned}
 use Rattle.brs_grammar.specs.Form.{Text}
 use Rattle.brs_meaning.specs.Request.{Access, Count}
 use Rattle.world_meaning.specs.Channel.{Channel}
-use Rattle.world_meaning.specs.Labels.{Changes, Answers, Walks, Visits, Takes}
+use Rattle.world_meaning.specs.Labels.{Begins, Stops, Drops, Changes, Answers, Walks, Visits, Takes}
 use Rattle.world_meaning.specs.Core as k
-use Rattle.world_meaning.specs.Core.{Entry, name_of, Agenda, Core, Moved, moved, followed}
-use Rattle.world_meaning.specs.Labels.{Begins}
+use Rattle.world_meaning.specs.Core.{Entry, name_of, names, only, Agenda, Core, Moved, moved, followed}
+use Rattle.world_meaning.specs.Ending.{end_actor}
 use Rattle.world_meaning.specs.Agendas.{settle_with}
 use Rattle.world_meaning.specs.Asking.{own_effect, answer_own, post}
-use Rattle.world_meaning.specs.Entries.{begin_entry}
+use Rattle.world_meaning.specs.Entries.{begin, begin_entry}
 use Rattle.channel_meaning.specs.History.{History, record_all, no_history}
 use Rattle.channel_meaning.specs.World.{World, run, first_actor, opening_core}
 use Rattle.channel_laws.specs.Laws.{PostsInTurn, EntriesInOrder, AllDelivered, AllWalked}
@@ -70,6 +70,30 @@ posts_twice ch =
 
 abbrev pub DoneAtPostBreaks : Type 0
 DoneAtPostBreaks = (ch : Channel) → PostsInTurn 1 (posts_twice ch).trace → ⊥
+
+-- ---- a stopped actor's access stays
+
+-- the actor ends and its entry is dropped, but it stays in the inbox
+abbrev pub stop_keeping : ℕ → Core → Moved
+stop_keeping a c = moved (end_actor a c) (Stops a ∷ map (Drops a) (only a (names c.inbox)))
+
+abbrev pub begin_next : Channel → List Entry → Core → Moved
+begin_next ch [] c = moved c []
+begin_next ch (e ∷ rest) c = begin ch e rest c
+
+-- actors 0, 1 and 2, all idle
+abbrev pub three_actors : Channel → Core
+three_actors ch = record (opening_core ch) { actors = first_actor ∷ first_actor ∷ first_actor ∷ [] }
+
+-- actor 2 posts and is stopped, and then the inbox begins what it has
+abbrev pub begins_after_stop : Channel → History
+begins_after_stop ch =
+    let posted : Moved = post 2 (Count 1) (three_actors ch) in
+    let stopped : Moved = stop_keeping 2 posted.core in
+    record_all (begin_next ch stopped.core.inbox stopped.core).labels (record_all stopped.labels (record_all posted.labels no_history))
+
+abbrev pub AccessStaysBreaks : Type 0
+AccessStaysBreaks = (ch : Channel) → PostsInTurn 2 (begins_after_stop ch).trace → ⊥
 
 -- ---- observers are taken at the delivery
 
