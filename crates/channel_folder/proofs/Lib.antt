@@ -1,0 +1,2 @@
+pub mod FileTurns
+pub mod FolderKinds
