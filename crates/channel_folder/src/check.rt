@@ -1,17 +1,19 @@
 //! The check of a channel's folder.
-ghost use Rattle.std.specs.Prelude.{◌≡◌, None, IfOk};
+ghost use Rattle.std.specs.Prelude.{◌≡◌, ◌≤◌, ◌<◌, Option, None, IfOk};
+ghost use Rattle.chan_values.specs.declared.folder_fault.FolderFault.{FolderFault as Refused};
 ghost use Rattle.folder_files.specs.Manifest as manifest;
 ghost use Rattle.folder_files.specs.SizeFaults.{first_size_fault};
 ghost use Rattle.folder_rules.specs.FirstFault as components;
+ghost use Rattle.script_faults.specs.Sources.{function_count};
 ghost use Rattle.channel_folder.specs.Answers.{Finds};
 ghost use Rattle.channel_folder.specs.Contents.{Hold};
 ghost use Rattle.channel_folder.specs.FolderFaults.{IsFirstFault};
 
 use crate::answer::CheckAnswer;
 use crate::contents::Contents;
-use crate::count::are_few;
 use crate::files::read_files;
 use crate::gate::Gate;
+use crate::laws::{few_functions, one_first_fault};
 use component_scopes::first_fault;
 use folder_files::first_manifest_fault;
 use folder_rules::{PathedComponent, SourceFunctions};
@@ -63,16 +65,34 @@ fn check_manifest(alloc: Global, files: &[FileBytes]) -> Result<(), CheckAnswer>
 }
 
 fn check_components(alloc: Global, contents: &Contents) -> Result<(), CheckAnswer>
+    requires few { function_count contents.now.sources < 4294967296 }
     ensures { Finds (components.IsFirstFault contents.now.components contents.now.sources) result }
 {
-    let sources = contents.sources.as_slice();
-    if !are_few(sources) {
-        return Err(CheckAnswer::NoMemory);
-    }
-    match first_fault(alloc, contents.components.as_slice(), sources) {
+    match first_fault(
+        alloc,
+        contents.components.as_slice(),
+        contents.sources.as_slice(),
+    ) {
         Ok(()) => Ok(()),
         Err(answer) => Err(CheckAnswer::of_tables(answer)),
     }
+}
+
+/// The channel of files whose sizes have no fault, or their first fault.
+fn channel_of<G: Gate>(
+    alloc: Global,
+    files: &[FileBytes],
+    gate: &G,
+) -> Result<Channel, CheckAnswer>
+    requires sizes { first_size_fault files.now ≡ None }
+    ensures first { Finds (IsFirstFault files.now) result }
+    ensures held { IfOk result (λ channel. Hold files.now channel) }
+{
+    check_manifest(alloc, files)?;
+    let contents = read_files(alloc, files, gate)?;
+    few_functions();
+    check_components(alloc, &contents)?;
+    Ok(Channel { contents })
 }
 
 /// The channel of a folder, or the folder's first fault: of the manifest; else of the first file that has one, by path; else of the components and
@@ -89,13 +109,15 @@ pub fn check_folder<R: Threads, G: Gate>(
     listing: &Listing,
     gate: &G,
 ) -> Result<Channel, CheckAnswer>
-    requires { first_size_fault listing.now ≡ None }
+    requires sizes { first_size_fault listing.now ≡ None }
+    // What is answered is right.
     ensures first { Finds (IsFirstFault listing.now) result }
     ensures held { IfOk result (λ channel. Hold listing.now channel) }
+    ensures few { IfOk result (λ channel. function_count channel.sources ≤ 16777216) }
+    // What is right is answered, unless memory runs out.
+    ensures all { (found : Option Refused) → IsFirstFault listing.now found → Finds (λ o. o ≡ found) result }
 {
-    let files = listing.as_slice();
-    check_manifest(alloc, files)?;
-    let contents = read_files(alloc, files, gate)?;
-    check_components(alloc, &contents)?;
-    Ok(Channel { contents })
+    one_first_fault();
+    few_functions();
+    channel_of(alloc, listing.as_slice(), gate)
 }

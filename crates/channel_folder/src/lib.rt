@@ -4,14 +4,15 @@
 mod answer;
 mod check;
 mod contents;
-mod count;
 mod faults;
 mod files;
 mod functions;
 mod gate;
 mod kind;
+mod laws;
 
 pub use answer::CheckAnswer;
 pub use check::{Channel, check_folder};
 pub use contents::Contents;
 pub use gate::{Gate, NoGate};
+pub use laws::{few_functions, one_first_fault};
