@@ -30,9 +30,13 @@ pub struct Channel {
 }
 
 impl Model for Channel {
+    ghost use Rattle.std.specs.Coded.{codes};
+    ghost use Rattle.component_files.specs.contracts.element.ChildElement as child;
     ghost use Rattle.channel_folder.specs.declared.contents.Contents.{Contents};
 
     ghost Value = { Contents };
+
+    ghost coded = { Prim.hlevel (codes, child.the_row.coded) };
 
     ghost view = { λ channel. channel.contents };
 }

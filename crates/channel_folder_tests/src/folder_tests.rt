@@ -8,7 +8,7 @@ const MAIN: Row = ("source/main.brs", "sub main()\nend sub\n");
 
 #[test]
 fn a_folder_is_refused_for_its_first_fault(rt: HostRuntime) -> Result<(), Fail> {
-    let rows: [(&[Row], &str); 14] = [
+    let rows: [(&[Row], &str); 17] = [
         (&[], "refused F3"),
         (&[MANIFEST], "refused F19"),
         (&[MANIFEST, ("source/main.brs", "")], "refused F19"),
@@ -29,6 +29,59 @@ fn a_folder_is_refused_for_its_first_fault(rt: HostRuntime) -> Result<(), Fail> 
             "refused F5 source/a.brs:9:6 Slash",
         ),
         (
+            &[
+                MANIFEST,
+                ("source/a.brs", "sub main()\n\n\n\n\n\n\n\na.b\nend sub\n"),
+                ("source/b.brs", "/"),
+            ],
+            "refused F6 source/a.brs:9:4",
+        ),
+        (
+            &[
+                ("components/a.xml", "<component name=\"A\" extends=\"Nope\"></component>"),
+                MANIFEST,
+                MAIN,
+            ],
+            "refused F10 components/a.xml:1 nope",
+        ),
+        (
+            &[
+                (
+                    "components/a.xml",
+                    "<component name=\"A\" extends=\"Group\"><interface><field id=\"F\" type=\"float\"/></interface></component>",
+                ),
+                MANIFEST,
+                MAIN,
+            ],
+            "refused F15 components/a.xml:1 f",
+        ),
+        (
+            &[
+                (
+                    "components/base.brs",
+                    "sub init()\nprint \"base\"; who()\nend sub\nfunction who()\nreturn \"B\"\nend function\n",
+                ),
+                (
+                    "components/base.xml",
+                    "<component name=\"Base\" extends=\"Group\"><script uri=\"base.brs\"/></component>",
+                ),
+                (
+                    "components/derived.brs",
+                    "sub init()\nprint \"derived\"\nend sub\nfunction who()\nreturn \"D\"\nend function\n",
+                ),
+                (
+                    "components/derived.xml",
+                    "<component name=\"Derived\" extends=\"Base\"><script uri=\"derived.brs\"/></component>",
+                ),
+                MANIFEST,
+                (
+                    "source/main.brs",
+                    "sub main()\nn = createObject(\"roSGNode\", \"Derived\")\nend sub\n",
+                ),
+            ],
+            "good",
+        ),
+        (
             &[MANIFEST, ("source/main.brs", "sub main()\na.b\nend sub\n")],
             "refused F6 source/main.brs:2:4",
         ),
@@ -39,14 +92,6 @@ fn a_folder_is_refused_for_its_first_fault(rt: HostRuntime) -> Result<(), Fail> 
                 ("source/b.brs", "/"),
             ],
             "refused F7 source/a.brs:2:1 ExitOutsideLoop",
-        ),
-        (
-            &[
-                MANIFEST,
-                ("components/a.xml", "<component name='A'>\n<b/></component>"),
-                ("source/main.brs", "/"),
-            ],
-            "refused F3",
         ),
         (
             &[

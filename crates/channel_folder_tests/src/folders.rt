@@ -28,13 +28,15 @@ fn add(files: &mut MemoryFiles, file: FileBytes) -> bool {
     files.may_push(file.path.as_str()) && files.push(file).is_ok()
 }
 
-/// The files of rows, which stand in order of path.
-fn files_of(alloc: Global, rows: &[Row]) -> Result<MemoryFiles, Fail> {
+/// The files of rows, `None` where they don't stand in order of path.
+fn files_of(alloc: Global, rows: &[Row]) -> Result<Option<MemoryFiles>, Fail> {
     let mut files = MemoryFiles::new(alloc, Calls::new(Vec::new(alloc)));
     for row in rows {
-        let _ = add(&mut files, file_of(alloc, row)?);
+        if !add(&mut files, file_of(alloc, row)?) {
+            return Ok(None);
+        }
     }
-    Ok(files)
+    Ok(Some(files))
 }
 
 fn refusal(alloc: Global, fault: &FolderFault) -> Result<String, Fail> {
@@ -46,9 +48,7 @@ fn refusal(alloc: Global, fault: &FolderFault) -> Result<String, Fail> {
     }
 }
 
-/// What the check of a folder of these files says: `good`, or the refusal.
-pub(crate) fn answer<R: Threads>(rt: &R, alloc: Global, rows: &[Row]) -> Result<String, Fail> {
-    let mut files = files_of(alloc, rows)?;
+fn answer_of<R: Threads>(rt: &R, alloc: Global, mut files: MemoryFiles) -> Result<String, Fail> {
     match read_folder(alloc, &mut files, "r") {
         Ok(listing) => match check_folder(rt, alloc, &listing, &NoGate) {
             Ok(_) => Ok(String::from_str(alloc, "good")?),
@@ -57,5 +57,13 @@ pub(crate) fn answer<R: Threads>(rt: &R, alloc: Global, rows: &[Row]) -> Result<
         },
         Err(FolderAnswer::Fault(fault)) => refusal(alloc, &fault),
         Err(_) => Ok(String::from_str(alloc, "not read")?),
+    }
+}
+
+/// What the check of a folder of these files says: `good`, or the refusal.
+pub(crate) fn answer<R: Threads>(rt: &R, alloc: Global, rows: &[Row]) -> Result<String, Fail> {
+    match files_of(alloc, rows)? {
+        Some(files) => answer_of(rt, alloc, files),
+        None => Ok(String::from_str(alloc, "out of order")?),
     }
 }

@@ -6,7 +6,7 @@ use Rattle.channel_folder.proofs.files.add_files.Goals as goal
 pub add_file-requires : goal.add_file-requires
 add_file-requires c =
     let here : c.loop-file.file-index < length c.args.files.now = omega arith in
-    short_at c.args.files.now c.loop-file.file-index c.file-item.result c.requires here c.file-item.is
+    record { short = short_at c.args.files.now c.loop-file.file-index c.file-item.result c.requires.short here c.file-item.is }
 
 pub loop-file-preserved : goal.loop-file-preserved
 loop-file-preserved c = λ before hold.
