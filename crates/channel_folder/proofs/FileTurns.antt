@@ -2,8 +2,8 @@
 use Rattle.std.proofs.Common.{◌≡◌, ℕ, zero, suc, ◌+◌, ◌<◌, ◌≤◌, ◌⊎◌, inl, inr, Bool, true, false, cond, List, [], ◌∷◌, ◌++◌, length, take, drop, get_or, map, refl, sym, ap, ◌∙◌, subst, arith, append_assoc}
 use Rattle.std.specs.Prelude.{filter}
 use Rattle.std.proofs.Math.Seq.{drop-cons}
-use Rattle.std.proofs.lemmas.Bool.Decides.{nat_tests}
-use Rattle.std.proofs.lemmas.List.{append-nil, take_more, take-append-drop}
+use Rattle.std.proofs.lemmas.List.{append-nil, map-append, take_more, take-append-drop}
+use Rattle.std.proofs.lemmas.List.Elements.{filter-append}
 use Rattle.chan_values.specs.declared.folder_fault.FolderFault.{FolderFault}
 use Rattle.outside.specs.declared.files.FileBytes.{FileBytes}
 use Rattle.folder_rules.specs.declared.component.PathedComponent.{PathedComponent}
@@ -12,6 +12,7 @@ use Rattle.channel_folder.specs.declared.contents.Contents.{Contents}
 use Rattle.channel_folder.specs.FileFaults.{contents, nothing, both, Holds, IsFaultOf}
 use Rattle.channel_folder.specs.Contents.{Hold, IsFirstOfFiles, Adds}
 use Rattle.folder_files.specs.SizeFaults.{fault_of, is_too_long, too_long}
+use Rattle.folder_files.proofs.Sizes.{lt_tells}
 
 both_assoc : (a b c : Contents) → both (both a b) c ≡ both a (both b c)
 both_assoc a b c =
@@ -60,31 +61,47 @@ fault_next before files after i file held fault here at hold is =
 
 -- ---- files none of which is too long
 
-pub short_parts : (a b : List FileBytes) → too_long (a ++ b) ≡ [] → (too_long a ≡ []) × (too_long b ≡ [])
-short_parts a b none = both_empty (too_long a) (too_long b) (sym (parts a) ∙ none)
-  where
-    parts : (a : List FileBytes) → too_long (a ++ b) ≡ too_long a ++ too_long b
-    parts [] = refl
-    parts (f ∷ fs) = go (is_too_long f) (parts fs)
-      where
-        go : (t : Bool) → too_long (fs ++ b) ≡ too_long fs ++ too_long b
-            → map (λ file. fault_of 2 file.path) (cond t (f ∷ filter is_too_long (fs ++ b)) (filter is_too_long (fs ++ b))) ≡ map (λ file. fault_of 2 file.path) (cond t (f ∷ filter is_too_long fs) (filter is_too_long fs)) ++ too_long b
-        go true e = ap (λ l. fault_of 2 f.path ∷ l) e
-        go false e = e
+abbrev long_fault : FileBytes → FolderFault
+long_fault file = fault_of 2 file.path
 
-    both_empty : (xs ys : List FolderFault) → xs ++ ys ≡ [] → (xs ≡ []) × (ys ≡ [])
-    both_empty [] ys e = (refl, e)
-    both_empty (x ∷ xs) ys e = absurd cc
+both_empty : (xs ys : List FolderFault) → xs ++ ys ≡ [] → (xs ≡ []) × (ys ≡ [])
+both_empty [] ys e = (refl, e)
+both_empty (x ∷ xs) ys e = absurd (cc)
+
+long_parts : (a b : List FileBytes) → too_long (a ++ b) ≡ too_long a ++ too_long b
+long_parts a b = ap (map long_fault) (filter-append is_too_long a b) ∙ map-append long_fault (filter is_too_long a) (filter is_too_long b)
+
+pub short_parts : (a b : List FileBytes) → too_long (a ++ b) ≡ [] → (too_long a ≡ []) × (too_long b ≡ [])
+short_parts a b none = both_empty (too_long a) (too_long b) (sym (long_parts a b) ∙ none)
 
 pub short_at : (files : List FileBytes) (i : ℕ) (file : FileBytes) → too_long files ≡ [] → i < length files → file ≡ get_or files i file → length file.bytes ≤ 1048576
 short_at [] i file none here at = absurd (omega arith)
 short_at (f ∷ fs) zero file none here at = subst (λ (g : FileBytes). length g.bytes ≤ 1048576) (sym at) (head (is_too_long f) refl none)
   where
     head : (t : Bool) → is_too_long f ≡ t → map (λ file. fault_of 2 file.path) (cond t (f ∷ filter is_too_long fs) (filter is_too_long fs)) ≡ [] → length f.bytes ≤ 1048576
-    head true e n = absurd cc
-    head false e n = grind (arith, nat_tests, e)
+    head true e n = absurd (cc)
+    head false e n = lt_tells 1048576 (length f.bytes) e
 short_at (f ∷ fs) (suc i) file none here at = short_at fs i file (tail (is_too_long f) none) (omega arith) at
   where
     tail : (t : Bool) → map (λ file. fault_of 2 file.path) (cond t (f ∷ filter is_too_long fs) (filter is_too_long fs)) ≡ [] → too_long fs ≡ []
-    tail true n = absurd cc
+    tail true n = absurd (cc)
     tail false n = n
+
+-- ---- both halves
+
+module _ (files first second : List FileBytes) (halves : first ++ second ≡ files) where
+  pub halves_hold : (a b : Contents) → ((before : List FileBytes) → Hold before nothing → Hold (before ++ first) a) → ((before : List FileBytes) → Hold before a → Hold (before ++ second) b) → Hold files b
+  halves_hold a b one two = subst (λ fs. Hold fs b) halves (two first (one [] refl))
+
+  pub first_half : (fault : FolderFault) → IsFirstOfFiles (first ++ second) fault → IsFirstOfFiles files fault
+  first_half fault is = subst (λ fs. IsFirstOfFiles fs fault) halves is
+
+  pub second_half : (fault : FolderFault) → IsFirstOfFiles (first ++ (second ++ [])) fault → IsFirstOfFiles files fault
+  second_half fault is = first_half fault (subst (λ fs. IsFirstOfFiles (first ++ fs) fault) (append-nil second) is)
+
+  pub halves_short : too_long files ≡ [] → (too_long first ≡ []) × (too_long second ≡ [])
+  halves_short none = short_parts first second (ap too_long halves ∙ none)
+
+pub halves_of : (files first second : List FileBytes) (n : ℕ) → first ≡ take n files → second ≡ drop n files → first ++ second ≡ files
+halves_of files first second n front back =
+    ap (λ fs. fs ++ second) front ∙ (ap (λ fs. take n files ++ fs) back ∙ take-append-drop n files)

@@ -33,7 +33,7 @@ pub record FileLaws : Type 0 where
   pub never_both_of_components : (bytes : List ℕ) (c : CheckedComponent) (fault : ComponentFault) → IsGoodComponent bytes c → IsComponentFault bytes fault → ⊥
 
 some_or_none : {A : Type 0} (a : A) → Some a ≡ None → ⊥
-some_or_none a e = absurd cc
+some_or_none a e = absurd (cc)
 
 -- ---- one file
 

@@ -17,13 +17,13 @@ use Rattle.component_files.specs.ComponentGrammar.{Mark, Open, Close, Data, Wron
 -- ---- marks
 
 -- how many bytes of scripts a mark has
-mark_size : Mark → ℕ
+abbrev mark_size : Mark → ℕ
 mark_size (Data s) = length s.text
 mark_size (Open t p) = 0
 mark_size (Close c) = 0
 mark_size Wrong = 0
 
-marks_size : List Mark → ℕ
+abbrev marks_size : List Mark → ℕ
 marks_size [] = 0
 marks_size (m ∷ ms) = mark_size m + marks_size ms
 
@@ -86,12 +86,12 @@ cut_size text (w ∷ ws) rest c =
 
 -- ---- elements
 
-pub inline_size : Option InlineScript → ℕ
+abbrev pub inline_size : Option InlineScript → ℕ
 inline_size None = 0
 inline_size (Some s) = length s.text
 
 -- how many bytes the inline scripts have together
-pub scripts_size : List ScriptElement → ℕ
+abbrev pub scripts_size : List ScriptElement → ℕ
 scripts_size [] = 0
 scripts_size (s ∷ ss) = inline_size s.inline + scripts_size ss
 
