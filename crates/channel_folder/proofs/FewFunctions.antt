@@ -69,25 +69,27 @@ module _ (laws : TokenLaws) where
   holds_size Source file held (f, is, e) =
       omega (arith, held_same held (of_source file.path f) e, one_source file.path f, source_size laws file.bytes 1 f is)
   holds_size Component file held (c, is, e) =
-      omega
-      (arith,
-      held_same held (of_component file.path c) e,
-      counted file.path true c.scripts,
-      script_functions (inline_scripts c.file.scripts) c.scripts is.scripts,
-      inline_total c.file.scripts,
-      component_size file.bytes c.file is.file)
+      omega (
+        arith,
+        held_same held (of_component file.path c) e,
+        counted file.path true c.scripts,
+        script_functions (inline_scripts c.file.scripts) c.scripts is.scripts,
+        inline_total c.file.scripts,
+        component_size file.bytes c.file is.file,
+      )
   holds_size Other file held e = omega (arith, held_same held _ e)
 
   hold_size : (files : List FileBytes) (held : Contents) → Hold files held → function_count held.sources ≤ sum_by byte_count files
   hold_size [] held e = omega (arith, held_same held _ e)
   hold_size (file ∷ files) held (here, more, (is, are, e)) =
-      omega
-      (arith,
-      held_same held _ e,
-      sum_by-append (λ (s : SourceFunctions). length s.functions) here.sources more.sources,
-      sum_by-cons byte_count file files,
-      holds_size (kind_of file.path) file here is,
-      hold_size files more are)
+      omega (
+        arith,
+        held_same held _ e,
+        sum_by-append (λ (s : SourceFunctions). length s.functions) here.sources more.sources,
+        sum_by-cons byte_count file files,
+        holds_size (kind_of file.path) file here is,
+        hold_size files more are,
+      )
 
 -- ---- the bytes of the files
 

@@ -140,12 +140,13 @@ no_scripts t p f e = no_scripts_of f (needed t.attributes (codes "name")) _ (λ 
 
 file_size : (ms : List Mark) (f : ComponentFile) → IsFile ms f → scripts_size f.scripts ≤ marks_size ms
 file_size ms f is =
-    omega
-    (arith,
-    around ms is.tag is.place is.body is.close is.cut,
-    no_scripts is.tag is.place is.head is.heads,
-    parts_size is.head is.body is.parts is.inside,
-    ap (λ (g : ComponentFile). scripts_size g.scripts) is.says)
+    omega (
+      arith,
+      around ms is.tag is.place is.body is.close is.cut,
+      no_scripts is.tag is.place is.head is.heads,
+      parts_size is.head is.body is.parts is.inside,
+      ap (λ (g : ComponentFile). scripts_size g.scripts) is.says,
+    )
 
 -- ---- files
 
@@ -168,9 +169,10 @@ text_size bytes = go (strip order_mark bytes) refl
 
 pub component_size : (bytes : List ℕ) (f : ComponentFile) → IsComponent bytes f → scripts_size f.scripts ≤ length bytes
 component_size bytes f is =
-    omega
-    (arith,
-    file_size (text_marks (start_of_file bytes) is.pieces) f is.file,
-    text_marks_size (start_of_file bytes) is.pieces,
-    cut_size (text_of_file bytes) is.pieces [] is.cut,
-    text_size bytes)
+    omega (
+      arith,
+      file_size (text_marks (start_of_file bytes) is.pieces) f is.file,
+      text_marks_size (start_of_file bytes) is.pieces,
+      cut_size (text_of_file bytes) is.pieces [] is.cut,
+      text_size bytes,
+    )

@@ -80,15 +80,16 @@ module _ (i : Inside) where
   unfolding File
   file_size ts fs s =
       let e = s.first in
-      omega
-      (arith,
-      parts_size ts s.front s.back s.cut,
-      parts_size s.front e.front e.back e.cut,
-      parts_size e.back e.second.front e.second.back e.second.cut,
-      many_size e.front e.value e.first,
-      last_size e.second.front e.second.value e.second.first,
-      count_of fs (s.value.turns ++ option_to_list s.value.last) s.second.1,
-      ending_count s.value (record { turns = e.value; last = e.second.value }) e.second.second.1)
+      omega (
+        arith,
+        parts_size ts s.front s.back s.cut,
+        parts_size s.front e.front e.back e.cut,
+        parts_size e.back e.second.front e.second.back e.second.cut,
+        many_size e.front e.value e.first,
+        last_size e.second.front e.second.value e.second.first,
+        count_of fs (s.value.turns ++ option_to_list s.value.last) s.second.1,
+        ending_count s.value (record { turns = e.value; last = e.second.value }) e.second.second.1,
+      )
 
 functions_size : (ts : List Tok) (fs : List NamedFunction) → IsFile ts fs → length fs ≤ length ts
 unfolding IsFile

@@ -83,11 +83,7 @@ fn check_components(alloc: Global, contents: &Contents) -> Result<(), CheckAnswe
 }
 
 /// The channel of files whose sizes have no fault, or their first fault.
-fn channel_of<G: Gate>(
-    alloc: Global,
-    files: &[FileBytes],
-    gate: &G,
-) -> Result<Channel, CheckAnswer>
+fn channel_of<G: Gate>(alloc: Global, files: &[FileBytes], gate: &G) -> Result<Channel, CheckAnswer>
     requires sizes { first_size_fault files.now ≡ None }
     ensures first { Finds (IsFirstFault files.now) result }
     ensures held { IfOk result (λ channel. Hold files.now channel) }

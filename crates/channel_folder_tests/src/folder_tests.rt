@@ -38,7 +38,10 @@ fn a_folder_is_refused_for_its_first_fault(rt: HostRuntime) -> Result<(), Fail> 
         ),
         (
             &[
-                ("components/a.xml", "<component name=\"A\" extends=\"Nope\"></component>"),
+                (
+                    "components/a.xml",
+                    "<component name=\"A\" extends=\"Nope\"></component>",
+                ),
                 MANIFEST,
                 MAIN,
             ],
