@@ -28,7 +28,7 @@ marks_size [] = 0
 marks_size (m ∷ ms) = mark_size m + marks_size ms
 
 joined : (a b : List Mark) → marks_size (a ++ b) ≡ marks_size a + marks_size b
-joined [] b = refl
+joined [] b = omega arith
 joined (m ∷ a) b = omega (arith, joined a b)
 
 cut_marks : (ms a b : List Mark) → ms ≡ a ++ b → marks_size ms ≡ marks_size a + marks_size b
