@@ -1,0 +1,5 @@
+pub mod View
+pub mod Showing
+pub mod Promises
+pub mod Performing
+pub mod Laws
