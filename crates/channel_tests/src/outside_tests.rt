@@ -357,7 +357,8 @@ fn a_refusal_says_what_is_given(rt: HostRuntime) {
             "a",
             "> refused F9 components/b.xml:1 a",
         ),
-        (255, "", 0, 4294967295, "x", "> refused F255:4294967295 x"),
+        (18, "", 0, 4294967295, "x", "> refused F18:4294967295 x"),
+        (255, "", 0, 0, "x", "> refused F255"),
     ] {
         let is = is_refusal(rt.alloc(), number, path, (line, column), name, want);
         assert!(rt; is == Some(true), "{want}");
