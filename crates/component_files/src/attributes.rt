@@ -5,7 +5,7 @@ ghost use Rattle.xml_pieces.specs.Reads.{Answers};
 ghost use Rattle.xml_pieces.specs.Written.{has_name};
 
 use crate::element::AttributeTextList;
-use chan_values::{NoMemory, Text, fold_name};
+use chan_values::{NoMemory, Text, copy_text, fold_name};
 use sqlite_items::Items;
 use std::alloc::Global;
 use xml_pieces::{AttributeText, NameSet, ReadError};
@@ -38,15 +38,6 @@ pub(crate) fn are_alike(a: &Text, b: &Text) -> bool
     alike(a.as_str().as_bytes(), b.as_str().as_bytes())
 }
 
-/// A copy of a text.
-pub(crate) fn copy(alloc: Global, text: &Text) -> Result<Text, NoMemory>
-    ensures { IfOk result (λ t. t ≡ text.now) }
-{
-    let mut made = Text::new(alloc);
-    made.push_str(text.as_str())?;
-    Ok(made)
-}
-
 /// Whether a tag has an attribute of this name.
 pub(crate) fn has_attribute(attributes: &[AttributeText], name: &[u8]) -> bool
     ensures { result ≡ has_name attributes.now name.now }
@@ -64,7 +55,7 @@ pub(crate) fn value_of(
 {
     while let [a, more @ ..] = attributes {
         if is_text(&a.name, name) {
-            return Ok(Some(copy(alloc, &a.value)?));
+            return Ok(Some(copy_text(alloc, &a.value)?));
         }
         attributes = more;
     }
@@ -120,8 +111,8 @@ fn copy_attribute(alloc: Global, a: &AttributeText) -> Result<AttributeText, NoM
     ensures { IfOk result (λ made. made ≡ a.now) }
 {
     Ok(AttributeText {
-        name: copy(alloc, &a.name)?,
-        value: copy(alloc, &a.value)?,
+        name: copy_text(alloc, &a.name)?,
+        value: copy_text(alloc, &a.value)?,
     })
 }
 

@@ -1,6 +1,6 @@
 -- Sets of names.
 use Rattle.std.specs.Prelude.{ℕ, Bool, List}
-use Rattle.std.specs.BTreeSet.{contains_text}
+use Rattle.std.specs.HashSet.{contains_text}
 use Rattle.xml_pieces.specs.declared.name_set.NameSet.{NameSet}
 
 -- whether a set has a name

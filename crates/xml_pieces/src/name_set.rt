@@ -5,12 +5,14 @@ ghost use Rattle.xml_pieces.specs.Names.{is_in};
 
 use chan_values::{NoMemory, Text};
 use std::alloc::Global;
-use std::collections::BTreeSet;
+use std::collections::HashSet;
+use std::hash::{BuildHasherDefault, FoldHasher};
 
-/// Names, each once. An addition takes a number of comparisons that grows with the logarithm of how many there are.
+/// Names, each once. An addition compares a name with those of its hash alone, however many there are. The hash has no seed, so that the
+/// same file always takes the same time; names chosen to have one hash make additions slow.
 #[derive(Drop)]
 pub struct NameSet {
-    names: BTreeSet<String>,
+    names: HashSet<String, BuildHasherDefault<FoldHasher>>,
 }
 
 impl NameSet {
@@ -19,7 +21,7 @@ impl NameSet {
         ensures { (name : List ℕ) → is_in result name ≡ false }
     {
         NameSet {
-            names: BTreeSet::new(alloc),
+            names: HashSet::new(alloc),
         }
     }
 

@@ -4,17 +4,8 @@ ghost use Rattle.xml_pieces.specs.Written as spec;
 
 use crate::name_set::NameSet;
 use crate::piece::AttributeText;
-use chan_values::{NoMemory, Text};
+use chan_values::{NoMemory, copy_text};
 use std::alloc::Global;
-
-/// A copy of a name.
-fn copy(alloc: Global, name: &Text) -> Result<Text, NoMemory>
-    ensures { IfOk result (λ made. made ≡ name.now) }
-{
-    let mut made = Text::new(alloc);
-    made.push_str(name.as_str())?;
-    Ok(made)
-}
 
 /// Whether no two attributes have one name. A tag may have many, so each name is looked for among those behind it in a set.
 pub(crate) fn are_distinct(alloc: Global, attributes: &[AttributeText]) -> Result<bool, NoMemory>
@@ -23,7 +14,7 @@ pub(crate) fn are_distinct(alloc: Global, attributes: &[AttributeText]) -> Resul
     let mut behind = NameSet::new(alloc);
     let mut rest = attributes;
     while let [front @ .., last] = rest {
-        let name = copy(alloc, &last.name)?;
+        let name = copy_text(alloc, &last.name)?;
         if !behind.add(name)? {
             return Ok(false);
         }

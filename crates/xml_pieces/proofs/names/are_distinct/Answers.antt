@@ -1,5 +1,4 @@
-use Rattle.std.proofs.Common.{rules, ◌≡◌, ◌∙◌, ◌<◌, ◌-◌, ◌+◌, ◌∷◌, true, length, get_or, take, drop, ap, sym, arith}
-use Rattle.std.proofs.lemmas.List.{drop_more}
+use Rattle.std.proofs.Common.{◌≡◌, ◌∙◌, ◌<◌, ◌-◌, ◌∷◌, true, length, drop, ap, sym, arith}
 use Rattle.xml_pieces.specs.Names.{is_in}
 use Rattle.xml_pieces.specs.Written as spec
 use Rattle.xml_pieces.proofs.Distinct.{last_behind, twice, was_there}
