@@ -1,4 +1,4 @@
--- Forms whose heads and statements have as many operands as they take. The forms of a source file have.
+-- Forms whose heads and statements have as many operands as they take.
 use Rattle.std.specs.Prelude.{◌≡◌, ℕ, ◌+◌, List, length, map, count_by}
 use Rattle.brs_grammar.specs.Form as g
 use Rattle.brs_grammar.specs.Form.{Head, Form, Node, Forms, none, more, Params, unnamed, required, optional, Doing, Todo, finish, first}

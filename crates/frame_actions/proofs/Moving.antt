@@ -16,13 +16,6 @@ use Rattle.frame_actions.proofs.Holding.{dropped_holds, pushed_holds, first_hold
 
 -- ---- operands
 
-pub carries_nothing : (h : Heap) (f0 f1 : List Frame) → f1 ≡ f0 → Carries h f0 h f1
-carries_nothing h f0 f1 e = λ name store others s.
-    stands_same name h.cells store (λ k. others k + call_references k f0) (λ k. others k + call_references k f1) s (λ k. let y : call_references k f1 ≡ call_references k f0 = ap (call_references k) e in omega arith)
-
-pub carries_same : (h : Heap) (f0 f1 : List Frame) → ((k : ℕ) → call_references k f1 ≡ call_references k f0) → Carries h f0 h f1
-carries_same h f0 f1 same = λ name store others s. stands_same name h.cells store (λ k. others k + call_references k f0) (λ k. others k + call_references k f1) s (λ k. let y = same k in omega arith)
-
 pub carries_drop : (h0 h1 : Heap) (f0 f1 : List Frame) (n to : ℕ) → Moves h0 h1 (λ k. all_operand_references k (take n (operands_of f0))) no_references → f1 ≡ changed (dropped n to) f0 → Carries h0 f0 h1 f1
 carries_drop h0 h1 f0 f1 n to moves e = λ name store others s.
     moves name store (λ k. others k + call_references k f0) (λ k. others k + call_references k f1) s
@@ -61,13 +54,6 @@ stored_is n to v (x ∷ below) f1 f2 f3 is a b c =
 pub place_holds : (k to : ℕ) (frames : List Frame) → call_references k (changed (at_place to) frames) ≡ call_references k frames
 place_holds k to [] = refl
 place_holds k to (x ∷ below) = refl
-
-pub carries_place : (h : Heap) (f0 f1 : List Frame) (to : ℕ) → f1 ≡ changed (at_place to) f0 → Carries h f0 h f1
-carries_place h f0 f1 to e = carries_same h f0 f1 (λ k. ap (call_references k) e ∙ place_holds k to f0)
-
-pub carries_plain : (h : Heap) (f0 f1 : List Frame) (plain : Plain) (to : ℕ) → 0 < length f0 → f1 ≡ changed (pushed (Direct plain) to) f0 → Carries h f0 h f1
-carries_plain h f0 f1 plain to p e =
-    carries_same h f0 f1 (λ k. let y = pushed_holds k (Direct plain) to f0 p in let z : call_references k f1 ≡ call_references k (changed (pushed (Direct plain) to) f0) = ap (call_references k) e in omega arith)
 
 pub carries_store : (h0 h1 h2 : Heap) (f0 f1 f2 f3 : List Frame) (n to : ℕ) (v : Value) (was : Option Value) → Hands h0 f0 h1 f1 v → n < length (slots_of f1) → was ≡ slot_value (slots_of f1) n → f2 ≡ changed (with_slot n v) f1
     → Moves h1 h2 (λ k. slot_reference k was) no_references → f3 ≡ changed (at_place to) f2 → Carries h0 f0 h2 f3
