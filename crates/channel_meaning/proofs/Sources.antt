@@ -1,6 +1,7 @@
 -- Channels for runs that are worked out by hand: their code as trees, and their tables.
 use Rattle.std.specs.Prelude.{ℕ, pos, Bool, false, List, [], ◌∷◌, ◌++◌, map, cond, ◌==◌, Option, Some, None, slice_get, codes}
 use Rattle.std.specs.Str.{bytes_eq}
+use Rattle.std.proofs.Common.{◌≡◌, refl, arith}
 use Rattle.brs_tokens.specs.declared.place.Place as t
 use Rattle.chan_values.specs.declared.portable.Portable.TheVariants as p
 use Rattle.field_types.specs.declared.types.FieldType.{FieldType}
@@ -8,6 +9,8 @@ use Rattle.field_types.specs.declared.types.FieldType.TheVariants as ty
 use Rattle.field_types.specs.declared.plans.FieldPlan.{FieldPlan}
 use Rattle.field_types.specs.declared.plans.ChildPlan.{ChildPlan}
 use Rattle.field_types.specs.declared.plans.KindPlan.{KindPlan}
+use Rattle.field_types.specs.Plans.{IsNext, IsPlanTable}
+use Rattle.field_types.proofs.Tables.{table_more}
 use Rattle.heap_meaning.specs.Values.{Entry}
 use Rattle.brs_grammar.specs.Form as f
 use Rattle.brs_grammar.specs.Form.{Text, Form, Node, none, more, Params, unnamed, Todo, finish, first}
@@ -88,13 +91,29 @@ number_field id always = record { id = id; kind = ty.Integer; always = always; o
 abbrev pub plan : Text → Option ℕ → List FieldPlan → List ChildPlan → (nodes : ℕ) → KindPlan
 plan kind base fields children nodes = record { kind = kind; base = base; fields = fields; children = children; nodes = nodes }
 
+abbrev node_plan : KindPlan
+node_plan = plan (codes "Node") None (text_field (codes "id") ∷ []) [] 1
+
+abbrev group_plan : KindPlan
+group_plan = plan (codes "Group") (Some 0) [] [] 1
+
+abbrev task_plan : KindPlan
+task_plan = plan (codes "Task") (Some 0) (text_field (codes "functionName") ∷ text_field (codes "control") ∷ record { id = codes "state"; kind = ty.String; always = false; opening = p.Words (codes "init") } ∷ []) [] 1
+
 -- Node, Group and Task at the places 0, 1 and 2
 abbrev pub built_in_plans : List KindPlan
-built_in_plans =
-    plan (codes "Node") None (text_field (codes "id") ∷ []) [] 1
-    ∷ plan (codes "Group") (Some 0) [] [] 1
-    ∷ plan (codes "Task") (Some 0) (text_field (codes "functionName") ∷ text_field (codes "control") ∷ record { id = codes "state"; kind = ty.String; always = false; opening = p.Words (codes "init") } ∷ []) [] 1
-    ∷ []
+built_in_plans = node_plan ∷ group_plan ∷ task_plan ∷ []
+
+none_table : IsPlanTable []
+none_table = record { each = λ at p e. absurd cc }
+
+-- a plan behind them makes a table of them and of itself
+pub table_with : (p : KindPlan) → IsNext built_in_plans p → IsPlanTable (built_in_plans ++ p ∷ [])
+table_with p next =
+    let one : IsPlanTable (node_plan ∷ []) = table_more [] node_plan none_table (record { base = (refl, refl); openings = (refl, tt); elements = tt; nodes = refl }) in
+    let two : IsPlanTable (node_plan ∷ group_plan ∷ []) = table_more (node_plan ∷ []) group_plan one (record { base = omega arith; openings = tt; elements = tt; nodes = refl }) in
+    let three : IsPlanTable built_in_plans = table_more (node_plan ∷ group_plan ∷ []) task_plan two (record { base = omega arith; openings = (refl, (refl, (refl, tt))); elements = tt; nodes = refl }) in
+    table_more built_in_plans p three next
 
 -- the function of a name, by its number
 abbrev pub at : Text → ℕ → Entry ℕ

@@ -4,7 +4,7 @@ use Rattle.std.specs.Prelude.{◌≡◌, true, false, List, [], ◌∷◌, Some,
 use Rattle.std.specs.Str.{chars, is_utf8}
 use Rattle.std.specs.Fmt.{digits}
 use Rattle.std.specs.Int.{int_wrap}
-use Rattle.std.proofs.Common.{refl}
+use Rattle.std.proofs.Common.{refl, arith}
 use Rattle.chan_values.specs.declared.event.Event.{Event}
 use Rattle.chan_values.specs.declared.event.Event.TheVariants.{Key, Turn, Round}
 use Rattle.chan_values.specs.declared.key.Key.TheVariants as key
@@ -13,6 +13,7 @@ use Rattle.field_types.specs.Words.{is_alike}
 use Rattle.trace_report.specs.declared.entry.EntryName.TheVariants as entry
 use Rattle.brs_grammar.specs.Form.{Todo, finish}
 use Rattle.world_meaning.specs.Channel.{Channel}
+use Rattle.world_meaning.specs.IsChannel.{IsChannel}
 use Rattle.field_observers.specs.declared.target.Target.TheVariants as target
 use Rattle.world_meaning.specs.Changing.{text_at}
 use Rattle.channel_meaning.specs.History.{Line, Printed, Returned, Posted, Began, Ended, Started, Stopped, Dropped, Notified}
@@ -77,6 +78,17 @@ halting =
     ((s.at (codes "init") 1 ∷ s.at (codes "go") 2 ∷ s.at (codes "halt") 3 ∷ []) ∷ [])
     (s.plan (codes "Worker") (Some 2) (s.number_field (codes "n") false ∷ []) [] 1 ∷ [])
     (s.component 1 (Some 1) (record { key = codes "n"; value = codes "halt" } ∷ []) [] ∷ [])
+
+-- it is a channel as the check of a folder lets them through
+halting_is_one : IsChannel halting
+unfolding chars is_utf8 encode digits int_wrap is_alike
+halting_is_one = record {
+  plans = s.table_with (s.plan (codes "Worker") (Some 2) (s.number_field (codes "n") false ∷ []) [] 1) (record { base = omega arith; openings = (refl, tt); elements = tt; nodes = refl });
+  places = refl;
+  components = (tt, (tt, (tt, (record { scope = omega arith; init = refl; on_change = (refl, tt); interface = tt }, tt))));
+  scopes = ((refl, tt), ((refl, (refl, (refl, tt))), tt));
+  main = refl;
+}
 
 a_stop_of_a_begun_access :
     trace_of halting (Turn 1 100 ∷ Turn 0 100 ∷ Turn 1 100 ∷ Turn 0 100 ∷ Turn 2 100 ∷ Turn 0 100 ∷ Turn 2 100 ∷ [])

@@ -20,6 +20,7 @@ use Rattle.brs_meaning.specs.Reduction.{Reduced, reduce}
 use Rattle.brs_meaning.specs.Answering.{Value, Start, state, next_wait}
 use Rattle.brs_meaning.specs.NodeLaws.{StepNames, AnswerNames, CallOnTopNames}
 use Rattle.brs_meaning.specs.Nodes.{Each, IfSome, ReducedNames}
+use Rattle.world_meaning.specs.IsChannel.{IsChannel}
 use Rattle.world_meaning.specs.Channel.{Channel, function_at, main_of}
 use Rattle.world_meaning.specs.Core.{KeyEntry, Actor, Core, Moved, actor_at, change_actor}
 use Rattle.world_meaning.specs.Ending.{with_state, end_run}
@@ -33,7 +34,7 @@ use Rattle.owner_laws.proofs.Jobs.{with_state_owned, hand_owned}
 use Rattle.owner_laws.proofs.Changes.{started_owned}
 use Rattle.owner_laws.proofs.Steps.{steps_own}
 
-module _ (steps : StepNames) (answers : AnswerNames) (on_top : CallOnTopNames) (ch : Channel) (table : IsPlanTable ch.plans) where
+module _ (steps : StepNames) (answers : AnswerNames) (on_top : CallOnTopNames) (ch : Channel) (is : IsChannel ch) where
   -- ---- waits that expire
 
   without_wait_owned : (a : ℕ) (x : Actor) (c : Core) → actor_at c a ≡ Some x → Owners c → Owners (without_wait ch a x c)
@@ -72,7 +73,7 @@ module _ (steps : StepNames) (answers : AnswerNames) (on_top : CallOnTopNames) (
 
   turn_owned : (bound a n : ℕ) (w : World) → Owners w.core → Owners (turn ch bound a n w).core
   turn_owned bound a zero w r = r
-  turn_owned bound a (suc n) w r = at_step (turn_owned bound a n) (step ch a w.core) (steps_own steps answers on_top ch table a w.core r)
+  turn_owned bound a (suc n) w r = at_step (turn_owned bound a n) (step ch a w.core) (steps_own steps answers on_top ch is a w.core r)
     where
       by_bound : ((v : World) → Owners v.core → Owners (turn ch bound a n v).core) → (m : Moved) (b : Bool) → Owners m.core → Owners (turned b (turn ch bound a n) m w).core
       by_bound ih m true h = ih (stepped m w) h
@@ -97,7 +98,7 @@ module _ (steps : StepNames) (answers : AnswerNames) (on_top : CallOnTopNames) (
   event_owned bound (event.Expire a) w r = expire_owned w.core.ending a w.core r
 
 pub events_own : StepNames → AnswerNames → CallOnTopNames → EventOwns
-events_own steps answers on_top ch table bound e w r = event_owned steps answers on_top ch table bound e w r
+events_own steps answers on_top ch is bound e w r = event_owned steps answers on_top ch is bound e w r
 
 -- ---- the opening world
 
@@ -117,8 +118,8 @@ one_owned ch table (suc zero) x e = subst (IsNodeOwned (new_node ch.plans 0 0 �
 one_owned ch table (suc (suc n)) x e = absurd cc
 
 pub opens_own : CallOnTopNames → OpeningOwns
-opens_own on_top ch table = record {
-  kin_and_fields = one_owned ch table;
+opens_own on_top ch is = record {
+  kin_and_fields = one_owned ch is.plans;
   global = refl;
   registered = tt;
   messages = tt;

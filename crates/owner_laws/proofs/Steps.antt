@@ -127,4 +127,4 @@ module _ (steps : StepNames) (answers : AnswerNames) (on_top : CallOnTopNames) (
   running_owned None a c r = actor_owned a (actor_at c a) c refl r
 
 pub steps_own : StepNames → AnswerNames → CallOnTopNames → StepOwns
-steps_own steps answers on_top ch table a c r = running_owned steps answers on_top ch table c.ending a c r
+steps_own steps answers on_top ch is a c r = running_owned steps answers on_top ch is.plans c.ending a c r

@@ -1,7 +1,6 @@
 -- Which nodes each place of a world may name: nodes of render, or of the actor whose place it is.
 use Rattle.std.specs.Prelude.{◌≡◌, ℕ, List, Option, Some, None, slice_get}
 use Rattle.chan_values.specs.declared.message.Message.{Message}
-use Rattle.field_types.specs.Plans.{IsPlanTable}
 use Rattle.field_observers.specs.InTime.{Observer}
 use Rattle.node_tree.specs.declared.node.Node.{Node}
 use Rattle.node_tree.specs.Nodes.{owner_of}
@@ -9,6 +8,7 @@ use Rattle.node_tree.specs.Owned.{Of, AreNodesOwned}
 use Rattle.brs_meaning.specs.Answering.{Reply}
 use Rattle.brs_meaning.specs.Nodes.{Each, IfSome, MessageNames, StoreNames, HomesName, CallsName, AccessNames, ReplyNames}
 use Rattle.world_meaning.specs.Channel.{Channel}
+use Rattle.world_meaning.specs.IsChannel.{IsChannel}
 use Rattle.world_meaning.specs.Core as k
 use Rattle.world_meaning.specs.Core.{Entry, KeyEntry, AccessEntry, LastEntry, Closing, Hands, GoesBack, Begun, Next, Answer, Another, EntryEnd, Agenda, Deliveries, Inits, Called, Actor, Core, Moved}
 use Rattle.world_meaning.specs.Steps.{step}
@@ -72,12 +72,11 @@ abbrev pub IfOwners : Option Moved → Type 0
 IfOwners None = Unit {0}
 IfOwners (Some m) = Owners m.core
 
--- the plans of a channel are a table, so no opening value of a field names a node
 abbrev pub OpeningOwns : Type 0
-OpeningOwns = (ch : Channel) → IsPlanTable ch.plans → Owners (opening ch).core
+OpeningOwns = (ch : Channel) → IsChannel ch → Owners (opening ch).core
 
 abbrev pub StepOwns : Type 0
-StepOwns = (ch : Channel) → IsPlanTable ch.plans → (a : ℕ) (c : Core) → Owners c → IfOwners (step ch a c)
+StepOwns = (ch : Channel) → IsChannel ch → (a : ℕ) (c : Core) → Owners c → IfOwners (step ch a c)
 
 abbrev pub EventOwns : Type 0
-EventOwns = (ch : Channel) → IsPlanTable ch.plans → (bound : ℕ) (e : Event) (w : World) → Owners w.core → Owners (happens ch bound e w).core
+EventOwns = (ch : Channel) → IsChannel ch → (bound : ℕ) (e : Event) (w : World) → Owners w.core → Owners (happens ch bound e w).core

@@ -3,10 +3,10 @@ use Rattle.std.proofs.Common.{◌≡◌, ℕ, zero, suc, ◌+◌, ◌≤◌, ◌
 use Rattle.std.specs.Prelude.{length}
 use Rattle.std.proofs.lemmas.List.{append_assoc, append-nil}
 use Rattle.chan_values.specs.declared.event.Event.{Event}
-use Rattle.field_types.specs.Plans.{IsPlanTable}
 use Rattle.node_tree.specs.declared.node.Node.{Node}
 use Rattle.node_tree.specs.Nodes.{owner_of}
 use Rattle.node_tree.specs.Owned.{Of, OnlyToRender}
+use Rattle.world_meaning.specs.IsChannel.{IsChannel}
 use Rattle.world_meaning.specs.Channel.{Channel}
 use Rattle.world_meaning.specs.Core.{Core, names}
 use Rattle.channel_meaning.specs.History.{History}
@@ -79,9 +79,9 @@ after_counts counting ch bound n (e ∷ events) w h =
 pub run_counts : OpeningCounts → EventCounts → (ch : Channel) (bound : ℕ) (events : List Event) → IsCounted (length events + 0) (run ch bound events)
 run_counts opens counting ch bound events = after_counts counting ch bound 0 events (opening ch) (opens ch)
 
-after_owned : EventOwns → (ch : Channel) → IsPlanTable ch.plans → (bound : ℕ) (events : List Event) (w : World) → Owners w.core → Owners (after ch bound events w).core
-after_owned owned ch table bound [] w h = h
-after_owned owned ch table bound (e ∷ events) w h = after_owned owned ch table bound events (happens ch bound e w) (owned ch table bound e w h)
+after_owned : EventOwns → (ch : Channel) → IsChannel ch → (bound : ℕ) (events : List Event) (w : World) → Owners w.core → Owners (after ch bound events w).core
+after_owned owned ch is bound [] w h = h
+after_owned owned ch is bound (e ∷ events) w h = after_owned owned ch is bound events (happens ch bound e w) (owned ch is bound e w h)
 
 after_rule : EveryEventKeeps → (ch : Channel) (bound : ℕ) (events : List Event) (w : World) → Rule w.core w.history → Rule (after ch bound events w).core (after ch bound events w).history
 after_rule keeps ch bound [] w h = h
@@ -107,10 +107,10 @@ pub record Given : Type 0 where
   pub event_owns : EventOwns
   pub others_nodes : OtherStepsLeaveNodes
 
-laws_after : Given → (ch : Channel) → IsPlanTable ch.plans → (bound : ℕ) (events : List Event) → LawsAt ch (run ch bound events)
-laws_after g ch table bound events =
+laws_after : Given → (ch : Channel) → IsChannel ch → (bound : ℕ) (events : List Event) → LawsAt ch (run ch bound events)
+laws_after g ch is bound events =
     let w : World = run ch bound events in
-    let owners : Owners w.core = after_owned g.event_owns ch table bound events (opening ch) (g.opening_owns ch table) in
+    let owners : Owners w.core = after_owned g.event_owns ch is bound events (opening ch) (g.opening_owns ch is) in
     record {
       history = g.runs ch bound events;
       waiting = waiting_of w.core w.history (after_rule g.keeps ch bound events (opening ch) (g.opens ch));
@@ -120,15 +120,15 @@ laws_after g ch table bound events =
       other_nodes = λ b. g.others_nodes ch b w.core owners.kin_and_fields;
     }
 
-laws_at : Given → (ch : Channel) → IsPlanTable ch.plans → (bound : ℕ) (w : World) → Leads ch bound (opening ch) w → LawsAt ch w
-laws_at g ch table bound w l =
+laws_at : Given → (ch : Channel) → IsChannel ch → (bound : ℕ) (w : World) → Leads ch bound (opening ch) w → LawsAt ch w
+laws_at g ch is bound w l =
     let i : IsEvents ch bound (opening ch) w = leads_events ch bound (opening ch) w l in
-    subst (LawsAt ch) i.is (laws_after g ch table bound i.events)
+    subst (LawsAt ch) i.is (laws_after g ch is bound i.events)
 
 pub gathered : Given → EveryRunHasLaws
-gathered g ch table bound events = record {
+gathered g ch is bound events = record {
   comes = run_leads ch bound events;
-  at = λ w p. laws_at g ch table bound w p.from;
+  at = λ w p. laws_at g ch is bound w p.from;
   between = λ w v p l k. between_worlds g.going g.owning ch bound w v l;
   few_steps = g.bounded ch bound events;
   few_keys = let few = (run_counts g.opening_counts g.event_counts ch bound events).few_keys in omega (arith, few);

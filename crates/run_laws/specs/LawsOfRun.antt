@@ -1,10 +1,10 @@
 -- All laws of a run in one statement.
 use Rattle.std.specs.Prelude.{◌≡◌, ℕ, ◌≤◌, suc, List, Some, length}
 use Rattle.chan_values.specs.declared.event.Event.{Event}
-use Rattle.field_types.specs.Plans.{IsPlanTable}
 use Rattle.node_tree.specs.Owned.{OnlyToRender}
 use Rattle.trace_report.specs.declared.entry.EntryName.{EntryName}
 use Rattle.world_meaning.specs.Channel.{Channel}
+use Rattle.world_meaning.specs.IsChannel.{IsChannel}
 use Rattle.world_meaning.specs.Core.{names, only}
 use Rattle.world_meaning.specs.Steps.{step}
 use Rattle.channel_meaning.specs.History.{Line}
@@ -55,6 +55,6 @@ pub record LawsOfRun (ch : Channel) (bound : ℕ) (events : List Event) (last : 
 
 -- ---- the law
 
--- of every channel whose plans are a table
+-- of every channel
 abbrev pub EveryRunHasLaws : Type 0
-EveryRunHasLaws = (ch : Channel) → IsPlanTable ch.plans → (bound : ℕ) (events : List Event) → LawsOfRun ch bound events (run ch bound events)
+EveryRunHasLaws = (ch : Channel) → IsChannel ch → (bound : ℕ) (events : List Event) → LawsOfRun ch bound events (run ch bound events)

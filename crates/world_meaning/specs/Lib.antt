@@ -1,4 +1,5 @@
 pub mod Channel
+pub mod IsChannel
 pub mod Portables
 pub mod Labels
 pub mod Core
