@@ -16,7 +16,7 @@ IsInScope ch component name = is_some (function_in ch component name) ≡ true
 
 pub record IsComponent (ch : Channel) (component : Component) : Type 0 where
   pub scope : component.scope < length ch.program.scopes
-  pub init : IfSome (IsFunction ch) component.init
+  pub init : IfSome component.init (IsFunction ch)
   pub on_change : AllByRecursion (λ e. IsInScope ch component e.value) component.on_change
   pub interface : AllByRecursion (IsInScope ch component) component.interface
 
@@ -25,7 +25,7 @@ pub record IsChannel (ch : Channel) : Type 0 where
   pub plans : IsPlanTable ch.plans
   -- each kind has its place among the components
   pub places : length ch.components ≡ length ch.plans
-  pub components : AllByRecursion (IfSome (IsComponent ch)) ch.components
+  pub components : AllByRecursion (λ o. IfSome o (IsComponent ch)) ch.components
   -- what a scope names is there
   pub scopes : AllByRecursion (AllByRecursion (λ e. IsFunction ch e.value)) ch.program.scopes
   -- there is a first function for actor 1
