@@ -8,4 +8,4 @@ use Rattle.object_operations.specs.declared.applied.Applied.{Applied}
 
 -- whatever the store that the heap stands for, the answer is this one
 pub record Delivers (old new : Heap) (r : Applied) (answer : Store → Answer) : Type 0 where
-  pub answers : (name : Naming) (store : Store) (before : Outside) → Stands name old.cells store before → Answers name new before r (answer store)
+  pub answers : (name : Naming) (store : Store) (before : Outside) → Stands name old.cells store before → Answers name new store before r (answer store)

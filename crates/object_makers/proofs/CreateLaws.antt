@@ -17,7 +17,7 @@ use Rattle.object_operations.specs.declared.applied.Applied.{Applied}
 use Rattle.object_operations.specs.declared.applied.Applied.TheVariants as a
 use Rattle.object_operations.proofs.Seeing.{first_belongs}
 use Rattle.object_operations.proofs.Entries.{text_seen}
-use Rattle.object_operations.proofs.Answering.{gave_plain, gave_object}
+use Rattle.object_operations.proofs.Answering.{gave_plain, gave_object, refusal}
 
 -- what a name makes, by the two tests of it
 abbrev new_array : Store → Answer
@@ -39,7 +39,7 @@ third_made name ws store e f =
 pub makes_array : (h h1 : Heap) (name : List ℕ) (arguments : List Value) (v : Value) → bytes_eq name (codes "roarray") ≡ true → MakesObject h h1 v (ArrayObject []) → Applies h h1 arguments (a.Value v) (made name)
 makes_array h h1 name arguments v e m = record {
   answers = λ naming store before s o.
-      subst (Answers naming h1 before (a.Value v)) (sym (first_made name (map (meaning naming) arguments) store e)) (gave_object naming h h1 store before v (ArrayObject []) s m);
+      subst (Answers naming h1 store before (a.Value v)) (sym (first_made name (map (meaning naming) arguments) store e)) (gave_object naming h h1 store before v (ArrayObject []) s m);
 }
 
 -- an empty associative array, which takes no further arguments
@@ -48,14 +48,14 @@ makes_pairs h h1 v m = record { answers = λ naming store before s o. gave_objec
 
 pub makes_map : (h h1 : Heap) (name : List ℕ) (arguments : List Value) (r : Applied) → bytes_eq name (codes "roarray") ≡ false → bytes_eq name (codes "roassociativearray") ≡ true → Applies h h1 arguments r map_made → Applies h h1 arguments r (made name)
 makes_map h h1 name arguments r e f given = record {
-  answers = λ naming store before s o. subst (Answers naming h1 before r) (sym (second_made name (map (meaning naming) arguments) store e f)) (given.answers naming store before s o);
+  answers = λ naming store before s o. subst (Answers naming h1 store before r) (sym (second_made name (map (meaning naming) arguments) store e f)) (given.answers naming store before s o);
 }
 
 pub makes_invalid : (h : Heap) (name : List ℕ) (arguments : List Value) (v : Value) → v ≡ Direct Invalid → bytes_eq name (codes "roarray") ≡ false → bytes_eq name (codes "roassociativearray") ≡ false → Applies h h arguments (a.Value v) (made name)
 makes_invalid h name arguments v is e f = record {
   answers = λ naming store before s o.
-      subst (Answers naming h before (a.Value v)) (sym (third_made name (map (meaning naming) arguments) store e f))
-      (subst (λ u. Answers naming h before (a.Value u) (Gives invalid store)) (sym is) (gave_plain naming h store before Invalid s));
+      subst (Answers naming h store before (a.Value v)) (sym (third_made name (map (meaning naming) arguments) store e f))
+      (subst (λ u. Answers naming h store before (a.Value u) (Gives invalid store)) (sym is) (gave_plain naming h store before Invalid s));
 }
 
 create_other : (w : StoreValue) (ws : List StoreValue) (store : Store) → text_of w ≡ None → create_row (w ∷ ws) store ≡ Raises E2
@@ -73,7 +73,7 @@ pub creates_nothing : (h : Heap) (x : Value) (arguments : List Value) → None �
 creates_nothing h x arguments e = record {
   answers = λ name store before s o.
       let f : text_of (meaning name x) ≡ None = text_seen h name store before x s (first_belongs h name store before x arguments s o) ∙ none_mapped (text_in (content_at h x)) e in
-      subst (Answers name h before (a.Raised E2)) (sym (create_other (meaning name x) (map (meaning name) arguments) store f)) refl;
+      subst (Answers name h store before (a.Raised E2)) (sym (create_other (meaning name x) (map (meaning name) arguments) store f)) (refusal name h store before E2 s);
 }
   where
     none_mapped : (o : Option (List ℕ)) → None ≡ option_map folded o → o ≡ None
@@ -92,9 +92,9 @@ creates h h1 x arguments name r e given = record {
       go naming store before (given.answers naming store before s (λ k. let y = o k in omega arith)) (text_in (content_at h x)) t e;
 }
   where
-    go : (naming : Naming) (store : Store) (before : Outside) → Answers naming h1 before r (made name (map (meaning naming) arguments) store) → (o : Option (List ℕ)) → text_of (meaning naming x) ≡ o → Some name ≡ option_map folded o
-        → Answers naming h1 before r (create_row (meaning naming x ∷ map (meaning naming) arguments) store)
+    go : (naming : Naming) (store : Store) (before : Outside) → Answers naming h1 store before r (made name (map (meaning naming) arguments) store) → (o : Option (List ℕ)) → text_of (meaning naming x) ≡ o → Some name ≡ option_map folded o
+        → Answers naming h1 store before r (create_row (meaning naming x ∷ map (meaning naming) arguments) store)
     go naming store before y None t e = absurd cc
     go naming store before y (Some bytes) t e =
         let f : name ≡ folded bytes = cc in
-        subst (Answers naming h1 before r) (ap (λ b. made b (map (meaning naming) arguments) store) f ∙ sym (create_text (meaning naming x) bytes (map (meaning naming) arguments) store t)) y
+        subst (Answers naming h1 store before r) (ap (λ b. made b (map (meaning naming) arguments) store) f ∙ sym (create_text (meaning naming x) bytes (map (meaning naming) arguments) store t)) y

@@ -21,6 +21,7 @@ use Rattle.object_operations.proofs.Seeing.{first_belongs}
 use Rattle.object_makers.specs.MessageAnswers.{AppliesToMessage}
 use Rattle.object_makers.specs.MessageData.{data_row}
 use Rattle.object_makers.proofs.MessageLaws.{message_held}
+use Rattle.object_operations.proofs.Answering.{refusal}
 
 -- a tree that was laid down is given
 gave_tree : (name : Naming) (old new : Heap) (store : Store) (before : Outside) (v : Value) (t : Tree) → Stands name old.cells store before → LaysDown old new v t → Gave name new (with_tree store t) before v (value_of_tree store t)
@@ -34,7 +35,7 @@ gives_data h h1 x v p e laid = record {
       let f = message_held h name store before x n message s (first_belongs h name store before x [] s o) names row in
       let g : Some p ≡ Some message.payload = e ∙ ap (option_map (λ (y : m.Message). y.payload)) f in
       let same : p ≡ message.payload = cc in
-      subst (λ q. Answers name h1 before (a.Value v) (Gives (value_of_tree store (tree_of q)) (with_tree store (tree_of q)))) same (gave_tree name h h1 store before v (tree_of p) s laid);
+      subst (λ q. Answers name h1 store before (a.Value v) (Gives (value_of_tree store (tree_of q)) (with_tree store (tree_of q)))) same (gave_tree name h h1 store before v (tree_of p) s laid);
 }
 
 pub gives_no_data : (h : Heap) (x : Value) (error : ErrorCode) → None ≡ option_map (λ (y : m.Message). y.payload) (message_in (content_at h x)) → AppliesToMessage h h x [] (a.Raised error) data_row
@@ -47,4 +48,4 @@ gives_no_data h x error e = record {
 
 pub no_data_arguments : (h : Heap) (x : Value) (arguments : List Value) → (arguments ≡ [] → ⊥) → AppliesToMessage h h x arguments (a.Raised E6) data_row
 no_data_arguments h x [] d = absurd (d refl)
-no_data_arguments h x (v ∷ vs) d = record { answers = λ name store before n message s o names row. refl }
+no_data_arguments h x (v ∷ vs) d = record { answers = λ name store before n message s o names row. refusal name h store before E6 s }

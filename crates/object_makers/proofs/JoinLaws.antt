@@ -26,7 +26,7 @@ use Rattle.object_operations.specs.declared.applied.Applied.TheVariants as a
 use Rattle.object_operations.proofs.Lists.{set_same, set_set, take_whole}
 use Rattle.object_operations.proofs.Seeing.{first_belongs, second_belongs, map_held}
 use Rattle.object_operations.proofs.Entries.{held_keys, held_value, held_entries, key_folded, entry_here, no_entry, value_here}
-use Rattle.object_operations.proofs.Answering.{gave_plain}
+use Rattle.object_operations.proofs.Answering.{gave_plain, refusal}
 use Rattle.object_makers.specs.Joins.{entry_list, Joins, Lacks, LacksKey}
 use Rattle.object_makers.proofs.EntryCounts.{take_entry, joined_append, new_keys_append, joined_own, more_within}
 
@@ -212,7 +212,7 @@ pub appends_no_map : (h : Heap) (pairs from : Value) → (HoldsPairs (content_at
 appends_no_map h pairs from other = record {
   answers = λ name store before n entries s o names row.
       let f = no_map h name store before from s (second_belongs h name store before pairs from [] s o) other in
-      subst (λ x. Answers name h before (a.Raised E2) (joined_row n entries x store)) (sym f) refl;
+      subst (λ x. Answers name h store before (a.Raised E2) (joined_row n entries x store)) (sym f) (refusal name h store before E2 s);
 }
 
 -- the associative array for which that of the heap stands
@@ -254,7 +254,7 @@ appends_too_many h pairs from count holds ordered lacks long = record {
         | inl l ↦ (let w = more_within entries x.entries (subst IsKeyList k (ordered (omega arith))) in omega arith)
         | inr l ↦ omega arith
       ] in
-      subst (λ y. Answers name h before (a.Raised E12) (joined_row n entries y store)) (sym f) (subst (Answers name h before (a.Raised E12)) (sym (too_many (length entries + new_keys entries x.entries) _ g)) refl);
+      subst (λ y. Answers name h store before (a.Raised E12) (joined_row n entries y store)) (sym f) (subst (Answers name h store before (a.Raised E12)) (sym (too_many (length entries + new_keys entries x.entries) _ g)) (refusal name h store before E12 s));
 }
 
 pub appends_map : (h h1 : Heap) (pairs from : Value) (count k : ℕ) → HoldsPairs (content_at h from) → Lacks h pairs from count (λ more. more) → length_in (content_at h pairs) + count ≤ 2 ^ 20 → k ≡ length_in (content_at h from) → Joins h h1 pairs from (take k)
@@ -269,12 +269,12 @@ appends_map h h1 pairs from count k holds lacks room e joins = record {
       let f : entries_of (meaning name from) store ≡ Some x.entries = ap (λ w. entries_of w store) x.names ∙ ap entries_of_object x.there in
       let t = joins.joins name store before n x.object entries x.entries s o names row x.names x.there in
       let u = subst (λ l. Stands name h1.cells (slice_set store n (MapObject (joined entries l))) before) (ap (λ j. take j x.entries) (e ∙ q) ∙ take_whole x.entries) t.stands in
-      subst (λ y. Answers name h1 before (a.Value (Direct Invalid)) (joined_row n entries y store)) (sym f)
-      (subst (Answers name h1 before (a.Value (Direct Invalid))) (sym (few_enough (length entries + new_keys entries x.entries) _ (omega arith))) (gave_plain name h1 _ before Invalid u));
+      subst (λ y. Answers name h1 store before (a.Value (Direct Invalid)) (joined_row n entries y store)) (sym f)
+      (subst (Answers name h1 store before (a.Value (Direct Invalid))) (sym (few_enough (length entries + new_keys entries x.entries) _ (omega arith))) (gave_plain name h1 _ before Invalid u));
 }
 
 -- `append(aa)` takes one argument
 pub no_append_arguments : (h : Heap) (pairs : Value) (arguments : List Value) → (length arguments ≢ 1) → AppliesToMap h h pairs arguments (a.Raised E6) append_keys_row
-no_append_arguments h pairs [] d = record { answers = λ name store before n entries s o names row. refl }
+no_append_arguments h pairs [] d = record { answers = λ name store before n entries s o names row. refusal name h store before E6 s }
 no_append_arguments h pairs (v ∷ []) d = absurd (d refl)
-no_append_arguments h pairs (v ∷ w ∷ vs) d = record { answers = λ name store before n entries s o names row. refl }
+no_append_arguments h pairs (v ∷ w ∷ vs) d = record { answers = λ name store before n entries s o names row. refusal name h store before E6 s }

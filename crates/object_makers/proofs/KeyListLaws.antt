@@ -22,6 +22,7 @@ use Rattle.object_operations.proofs.Lists.{set_same, set_set, take_whole, append
 use Rattle.object_operations.proofs.Seeing.{first_belongs, array_held, held_length, map_held}
 use Rattle.object_operations.proofs.Entries.{held_keys, held_entries}
 use Rattle.object_makers.specs.KeyLists.{key_list, PushesKeys}
+use Rattle.object_operations.proofs.Answering.{refusal}
 
 -- a value that is out stands for the same under both names
 pub meaning_agrees : (name name' : Naming) (before : Outside) (v : Value) → Agrees name name' before → ((k : ℕ) → occurrence k v ≤ before k) → meaning name' v ≡ meaning name v
@@ -152,4 +153,4 @@ lists_keys h h1 h2 pairs list k made e pushes = record {
 -- `keys()` takes no argument
 pub no_keys_arguments : (h : Heap) (pairs : Value) (arguments : List Value) → (arguments ≡ [] → ⊥) → AppliesToMap h h pairs arguments (a.Raised E6) keys_row
 no_keys_arguments h pairs [] d = absurd (d refl)
-no_keys_arguments h pairs (v ∷ vs) d = record { answers = λ name store before n entries s o names row. refl }
+no_keys_arguments h pairs (v ∷ vs) d = record { answers = λ name store before n entries s o names row. refusal name h store before E6 s }

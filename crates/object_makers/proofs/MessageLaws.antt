@@ -23,7 +23,7 @@ use Rattle.object_operations.specs.declared.receiver.Receiver.TheVariants as r
 use Rattle.object_operations.specs.declared.applied.Applied.{Applied}
 use Rattle.object_operations.specs.declared.applied.Applied.TheVariants as a
 use Rattle.object_operations.proofs.Seeing.{first_belongs}
-use Rattle.object_operations.proofs.Answering.{gave_plain, gave_text}
+use Rattle.object_operations.proofs.Answering.{gave_plain, gave_text, refusal}
 use Rattle.object_operations.proofs.Told.{KindOf, of_plain, of_text, of_array, of_pairs, of_message, kind_seen}
 use Rattle.object_makers.specs.MessageAnswers.{AppliesToMessage}
 use Rattle.object_makers.specs.Told.{told_of}
@@ -48,9 +48,9 @@ calls_message h h1 x arguments result method e given = record {
       go name store before s o (meaning name x) refl r.Message refl k;
 }
   where
-    go : (name : Naming) (store : Store) (before : Outside) → Stands name h.cells store before → AreOut (x ∷ arguments) before → (w : StoreValue) → meaning name x ≡ w → (kind : Receiver) → kind ≡ r.Message → KindOf store kind w → Answers name h1 before result (on_message method (w ∷ map (meaning name) arguments) store)
+    go : (name : Naming) (store : Store) (before : Outside) → Stands name h.cells store before → AreOut (x ∷ arguments) before → (w : StoreValue) → meaning name x ≡ w → (kind : Receiver) → kind ≡ r.Message → KindOf store kind w → Answers name h1 store before result (on_message method (w ∷ map (meaning name) arguments) store)
     go name store before s o _ f _ q (of_message n message there) =
-        subst (Answers name h1 before result) (sym (ap (λ x. on_message_object method x (map (meaning name) arguments) store) there)) (given.answers name store before n message s o f there)
+        subst (Answers name h1 store before result) (sym (ap (λ x. on_message_object method x (map (meaning name) arguments) store) there)) (given.answers name store before n message s o f there)
     go name store before s o _ f _ q (of_array n items there) = absurd cc
     go name store before s o _ f _ q (of_pairs n entries there) = absurd cc
     go name store before s o _ f _ q (of_text bytes) = absurd cc
@@ -93,15 +93,15 @@ pub tells_text : (h h1 : Heap) (x v : Value) (method : MessageMethod) (bytes : L
 tells_text h h1 x v method bytes e made = record {
   answers = λ name store before n message s o names row.
       let f = message_held h name store before x n message s (first_belongs h name store before x [] s o) names row in
-      subst (λ w. Answers name h1 before (a.Value v) (Gives w store)) (sym (told_value method message (message_in (content_at h x)) (Words bytes) f e)) (gave_text name h h1 store before v bytes s made);
+      subst (λ w. Answers name h1 store before (a.Value v) (Gives w store)) (sym (told_value method message (message_in (content_at h x)) (Words bytes) f e)) (gave_text name h h1 store before v bytes s made);
 }
 
 pub tells_plain : (h : Heap) (x v : Value) (method : MessageMethod) (plain : Plain) → v ≡ Direct plain → Some (Scalar plain) ≡ option_map (told method) (message_in (content_at h x)) → AppliesToMessage h h x [] (a.Value v) (method_of_message method)
 tells_plain h x v method plain is e = record {
   answers = λ name store before n message s o names row.
       let f = message_held h name store before x n message s (first_belongs h name store before x [] s o) names row in
-      subst (λ w. Answers name h before (a.Value v) (Gives w store)) (sym (told_value method message (message_in (content_at h x)) (Scalar plain) f e))
-      (subst (λ u. Answers name h before (a.Value u) (Gives (Scalar plain) store)) (sym is) (gave_plain name h store before plain s));
+      subst (λ w. Answers name h store before (a.Value v) (Gives w store)) (sym (told_value method message (message_in (content_at h x)) (Scalar plain) f e))
+      (subst (λ u. Answers name h store before (a.Value u) (Gives (Scalar plain) store)) (sym is) (gave_plain name h store before plain s));
 }
 
 -- nothing is told of what is no message
@@ -116,4 +116,4 @@ tells_nothing h x method error e = record {
 -- a method of messages takes no argument
 pub no_message_arguments : (h : Heap) (x : Value) (arguments : List Value) (method : MessageMethod) → (arguments ≡ [] → ⊥) → AppliesToMessage h h x arguments (a.Raised E6) (method_of_message method)
 no_message_arguments h x [] method d = absurd (d refl)
-no_message_arguments h x (v ∷ vs) method d = record { answers = λ name store before n message s o names row. refl }
+no_message_arguments h x (v ∷ vs) method d = record { answers = λ name store before n message s o names row. refusal name h store before E6 s }

@@ -14,4 +14,4 @@ pub record AppliesToMessage (old new : Heap) (message : Value) (arguments : List
   pub answers : (name : Naming) (store : Store) (before : Outside) (n : ℕ) (m : m.Message)
       → Stands name old.cells store before → AreOut (message ∷ arguments) before
       → meaning name message ≡ Reference n → slice_get store n ≡ Some (MessageObject m)
-      → Answers name new before r (row m (map (meaning name) arguments) store)
+      → Answers name new store before r (row m (map (meaning name) arguments) store)

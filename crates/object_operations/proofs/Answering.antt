@@ -1,5 +1,6 @@
 -- The ways in which an operation answers.
 use Rattle.std.proofs.Common.{◌≡◌, ℕ, ◌+◌, Result, Ok, Err, IfOk, List, [], ◌∷◌, ◌++◌, length, refl, arith}
+use Rattle.chan_values.specs.declared.error_code.ErrorCode.{ErrorCode}
 use Rattle.heap_meaning.specs.declared.plain.Plain.{Plain}
 use Rattle.heap_meaning.specs.Values.{Value, Direct, StoreValue, Scalar, Words, Reference}
 use Rattle.heap_meaning.specs.Store.{Object, Store}
@@ -7,7 +8,7 @@ use Rattle.heap_meaning.specs.Cells.{occurrence}
 use Rattle.heap_meaning.specs.Stands.{Naming, Outside, meaning, Stands}
 use Rattle.heap_meaning.specs.Heap.{Heap, Moves, MakesText, MakesObject, no_references, references_of}
 use Rattle.heap_meaning.proofs.Steps.{stands_same}
-use Rattle.object_operations.specs.Applies.{Gave}
+use Rattle.object_operations.specs.Applies.{Gave, Refused}
 
 -- a plain value is given
 pub gave_plain : (name : Naming) (new : Heap) (store : Store) (before : Outside) (plain : Plain) → Stands name new.cells store before → Gave name new store before (Direct plain) (Scalar plain)
@@ -37,6 +38,10 @@ pub gave_object : (name : Naming) (old new : Heap) (store : Store) (before : Out
 gave_object name old new store before v object s m =
     let r = m name store before (λ k. occurrence k v + before k) s (λ k. refl) in
     record { naming = r.naming; agrees = r.agrees; shows = r.shows; stands = r.stands }
+
+-- an error is raised where the heap stands for the store as before
+pub refusal : (name : Naming) (new : Heap) (store : Store) (before : Outside) (error : ErrorCode) → Stands name new.cells store before → Refused name new store before error error
+refusal name new store before error s = record { same = refl; stands = s }
 
 -- what follows from what holds of a value that was answered
 pub through : {A E : Type 0} {P Q : A → Type 0} (r : Result A E) → ((v : A) → P v → Q v) → IfOk r P → IfOk r Q

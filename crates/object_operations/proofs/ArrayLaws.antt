@@ -20,7 +20,7 @@ use Rattle.object_operations.specs.Applies.{Answers, AppliesToArray}
 use Rattle.object_operations.specs.declared.applied.Applied.{Applied}
 use Rattle.object_operations.specs.declared.applied.Applied.TheVariants as a
 use Rattle.object_operations.proofs.Seeing.{first_belongs, second_belongs, array_held, held_length, held_item}
-use Rattle.object_operations.proofs.Answering.{gave_plain, gave_out, gave_shared}
+use Rattle.object_operations.proofs.Answering.{gave_plain, gave_out, gave_shared, refusal}
 
 pub room : (n : ℕ) (x : Answer) → n < 2 ^ 20 → if_room n x ≡ x
 room n x l = grind (arith, common_steps)
@@ -40,7 +40,7 @@ pub refused_full : (h : Heap) (array item : Value) (i : ℕ) → 2 ^ 20 ≤ leng
 refused_full h array item i l = record {
   answers = λ name store before n items s o names row.
       let e = held_length h name array items (array_held h name store before array n items s (first_belongs h name store before array (item ∷ []) s o) names row) in
-      subst (Answers name h before (a.Raised E12)) (sym (no_room (length items) _ (omega arith))) refl;
+      subst (Answers name h store before (a.Raised E12)) (sym (no_room (length items) _ (omega arith))) (refusal name h store before E12 s);
 }
 
 -- an item that was shared and put into an array
@@ -55,7 +55,7 @@ inserts h h1 h2 array item shared i l same moves puts = record {
       let b1 = first_belongs h1 name store mid array [] t (λ k. let x = o k in omega arith) in
       let u = puts name store mid before n items t b1 names row (λ k. omega arith) in
       let w = subst (λ v. Stands name h2.cells (slice_set store n (ArrayObject (insert items i (meaning name v)))) before) same u in
-      subst (Answers name h2 before (a.Value (Direct Invalid))) (sym (room (length items) _ (omega arith))) (gave_plain name h2 _ before Invalid w);
+      subst (Answers name h2 store before (a.Value (Direct Invalid))) (sym (room (length items) _ (omega arith))) (gave_plain name h2 _ before Invalid w);
 }
 
 -- no item stands at the place
@@ -64,7 +64,7 @@ takes_none h array i e = record {
   answers = λ name store before n items s o names row.
       let held = array_held h name store before array n items s (first_belongs h name store before array [] s o) names row in
       let f : slice_get items i ≡ None = held_item h name array items i held ∙ ap (option_map (meaning name)) e in
-      subst (λ x. Answers name h before (a.Value (Direct Invalid)) (took n items i x store)) (sym f) (gave_plain name h store before Invalid s);
+      subst (λ x. Answers name h store before (a.Value (Direct Invalid)) (took n items i x store)) (sym f) (gave_plain name h store before Invalid s);
 }
 
 -- the item at the place is taken out
@@ -75,7 +75,7 @@ takes_item h h1 array item i e takes = record {
       let held = array_held h name store before array n items s b names row in
       let f : slice_get items i ≡ Some (meaning name item) = held_item h name array items i held ∙ ap (option_map (meaning name)) e in
       let u = takes name store before (λ k. occurrence k item + before k) n items s b names row (λ k. omega arith) in
-      subst (λ x. Answers name h1 before (a.Value item) (took n items i x store)) (sym f) (gave_out name h1 _ before item (meaning name item) refl u);
+      subst (λ x. Answers name h1 store before (a.Value item) (took n items i x store)) (sym f) (gave_out name h1 _ before item (meaning name item) refl u);
 }
 
 -- push is an item put before those from the length on
@@ -85,7 +85,7 @@ pushes h h1 array item i r e x = record {
       let f = held_length h name array items (array_held h name store before array n items s (first_belongs h name store before array (item ∷ []) s o) names row) in
       let w = meaning name item in
       let same : insert items i w ≡ items ++ w ∷ [] = ap (λ j. insert items j w) (e ∙ f) ∙ insert_end items w in
-      subst (λ l. Answers name h1 before r (if_room (length items) (Gives invalid (with_items n l store)))) same (x.answers name store before n items s o names row);
+      subst (λ l. Answers name h1 store before r (if_room (length items) (Gives invalid (with_items n l store)))) same (x.answers name store before n items s o names row);
 }
 
 -- pop is the last item taken out
@@ -93,7 +93,7 @@ pub pops : (h h1 : Heap) (array : Value) (i : ℕ) (r : Applied) → i ≡ lengt
 pops h h1 array i r e x = record {
   answers = λ name store before n items s o names row.
       let f = held_length h name array items (array_held h name store before array n items s (first_belongs h name store before array [] s o) names row) in
-      subst (λ j. Answers name h1 before r (taken n items j store)) (e ∙ ap (λ j. j - 1) f) (x.answers name store before n items s o names row);
+      subst (λ j. Answers name h1 store before r (taken n items j store)) (e ∙ ap (λ j. j - 1) f) (x.answers name store before n items s o names row);
 }
 
 -- the last item is read
@@ -103,7 +103,7 @@ peeks_none h array i e none = record {
       let held = array_held h name store before array n items s (first_belongs h name store before array [] s o) names row in
       let at : length items - 1 ≡ i = sym (e ∙ ap (λ j. j - 1) (held_length h name array items held)) in
       let f : slice_get items (length items - 1) ≡ None = ap (slice_get items) at ∙ held_item h name array items i held ∙ ap (option_map (meaning name)) none in
-      subst (λ x. Answers name h before (a.Value (Direct Invalid)) (Gives (or_invalid x) store)) (sym f) (gave_plain name h store before Invalid s);
+      subst (λ x. Answers name h store before (a.Value (Direct Invalid)) (Gives (or_invalid x) store)) (sym f) (gave_plain name h store before Invalid s);
 }
 
 pub peeks_item : (h h1 : Heap) (array item : Value) (i : ℕ) → i ≡ length_in (content_at h array) - 1 → item_in (content_at h array) i ≡ Some item → Moves h h1 no_references (references_of item) → AppliesToArray h h1 array [] (a.Value item) (method_of_array Peek)
@@ -112,7 +112,7 @@ peeks_item h h1 array item i e some moves = record {
       let held = array_held h name store before array n items s (first_belongs h name store before array [] s o) names row in
       let at : length items - 1 ≡ i = sym (e ∙ ap (λ j. j - 1) (held_length h name array items held)) in
       let f : slice_get items (length items - 1) ≡ Some (meaning name item) = ap (slice_get items) at ∙ held_item h name array items i held ∙ ap (option_map (meaning name)) some in
-      subst (λ x. Answers name h1 before (a.Value item) (Gives (or_invalid x) store)) (sym f) (gave_shared name h h1 store before item (meaning name item) s moves refl);
+      subst (λ x. Answers name h1 store before (a.Value item) (Gives (or_invalid x) store)) (sym f) (gave_shared name h h1 store before item (meaning name item) s moves refl);
 }
 
 -- the number of items
@@ -121,5 +121,5 @@ counts h array v e = record {
   answers = λ name store before n items s o names row.
       let f = held_length h name array items (array_held h name store before array n items s (first_belongs h name store before array [] s o) names row) in
       let g : v ≡ Direct (Small (pos (min (length items) (2 ^ 31 - 1)))) = e ∙ ap (λ l. Direct (Small (pos (min l (2 ^ 31 - 1))))) f in
-      subst (λ x. Answers name h before (a.Value x) (Gives (counted (length items)) store)) (sym g) (gave_plain name h store before _ s);
+      subst (λ x. Answers name h store before (a.Value x) (Gives (counted (length items)) store)) (sym g) (gave_plain name h store before _ s);
 }

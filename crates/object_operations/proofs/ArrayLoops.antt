@@ -26,7 +26,7 @@ use Rattle.object_operations.specs.declared.array_method.ArrayMethod.TheVariants
 use Rattle.object_operations.specs.declared.applied.Applied.TheVariants as a
 use Rattle.object_operations.proofs.Lists.{set_same, set_set, remove_past, remove_last, take_whole, take_more, append_none}
 use Rattle.object_operations.proofs.Seeing.{first_belongs, second_belongs, array_held, held_length, held_item}
-use Rattle.object_operations.proofs.Answering.{gave_plain}
+use Rattle.object_operations.proofs.Answering.{gave_plain, refusal}
 
 module _ (name : Naming) (new : Heap) (store : Store) (before : Outside) (n : ℕ) (items : List StoreValue) (row : slice_get store n ≡ Some (ArrayObject items)) where
   -- an array whose items are as they were
@@ -79,7 +79,7 @@ pub deletes_no_number : (h : Heap) (array i : Value) → number_of (plain_of i) 
 deletes_no_number h array i e = record {
   answers = λ name store before n items s o names row.
       let f = number_seen h name store before i s (second_belongs h name store before array i [] s o) ∙ e in
-      subst (λ x. Answers name h before (a.Raised E2) (deleted n items x store)) (sym f) refl;
+      subst (λ x. Answers name h store before (a.Raised E2) (deleted n items x store)) (sym f) (refusal name h store before E2 s);
 }
 
 pub below : (n : ℤ) → place_at n ≡ None → (i : ℕ) × (n ≡ negsuc i)
@@ -95,7 +95,7 @@ deletes_below h array i j e none = record {
   answers = λ name store before n items s o names row.
       let z = below j none in
       let f = number_seen h name store before i s (second_belongs h name store before array i [] s o) ∙ e ∙ ap Some z.1 in
-      subst (λ x. Answers name h before (a.Value (Direct (Truth false))) (deleted n items x store)) (sym f) (gave_plain name h store before (Truth false) s);
+      subst (λ x. Answers name h store before (a.Value (Direct (Truth false))) (deleted n items x store)) (sym f) (gave_plain name h store before (Truth false) s);
 }
 
 pub deletes_at : (h h1 : Heap) (array i : Value) (j : ℤ) (at : ℕ) (there : Bool) → number_of (plain_of i) ≡ Some j → place_at j ≡ Some at → there ≡ is_some (item_in (content_at h array) at)
@@ -106,14 +106,14 @@ deletes_at h h1 array i j at there e some is becomes = record {
       let f : number_in (meaning name i) ≡ Some (pos at) = number_seen h name store before i s (second_belongs h name store before array i [] s o) ∙ e ∙ ap Some (within j at some) in
       let g = held_item h name array items at (array_held h name store before array n items s b names row) in
       let t = becomes.stands name store before n items s (λ k. let x = o k in omega arith) names row in
-      subst (λ x. Answers name h1 before (a.Value (Direct (Truth there))) (deleted n items x store)) (sym f)
+      subst (λ x. Answers name h1 store before (a.Value (Direct (Truth there))) (deleted n items x store)) (sym f)
       (go name store before n items row t (slice_get items at) (item_in (content_at h array) at) refl g is);
 }
   where
     go : (name : Naming) (store : Store) (before : Outside) (n : ℕ) (items : List StoreValue) → slice_get store n ≡ Some (ArrayObject items) → Stands name h1.cells (slice_set store n (ArrayObject (remove items at))) before
-        → (x : Option StoreValue) (y : Option Value) → slice_get items at ≡ x → x ≡ option_map (meaning name) y → there ≡ is_some y → Answers name h1 before (a.Value (Direct (Truth there))) (removed n items at x store)
-    go name store before n items row t (Some w) (Some v) p q is = subst (λ z. Answers name h1 before (a.Value (Direct (Truth z))) (removed n items at (Some w) store)) (sym is) (gave_plain name h1 _ before (Truth true) t)
-    go name store before n items row t None None p q is = subst (λ z. Answers name h1 before (a.Value (Direct (Truth z))) (removed n items at None store)) (sym is) (gave_plain name h1 store before (Truth false) (stands_before name h1 store before n items row (remove items at) (remove_past items at p) t))
+        → (x : Option StoreValue) (y : Option Value) → slice_get items at ≡ x → x ≡ option_map (meaning name) y → there ≡ is_some y → Answers name h1 store before (a.Value (Direct (Truth there))) (removed n items at x store)
+    go name store before n items row t (Some w) (Some v) p q is = subst (λ z. Answers name h1 store before (a.Value (Direct (Truth z))) (removed n items at (Some w) store)) (sym is) (gave_plain name h1 _ before (Truth true) t)
+    go name store before n items row t None None p q is = subst (λ z. Answers name h1 store before (a.Value (Direct (Truth z))) (removed n items at None store)) (sym is) (gave_plain name h1 store before (Truth false) (stands_before name h1 store before n items row (remove items at) (remove_past items at p) t))
     go name store before n items row t (Some w) None p q is = absurd cc
     go name store before n items row t None (Some v) p q is = absurd cc
 
@@ -170,7 +170,7 @@ pub appends_no_array : (h : Heap) (array from : Value) → (HoldsArray (content_
 appends_no_array h array from other = record {
   answers = λ name store before n items s o names row.
       let f = no_array h name store before from s (second_belongs h name store before array from [] s o) other in
-      subst (λ x. Answers name h before (a.Raised E2) (appended n items x store)) (sym f) refl;
+      subst (λ x. Answers name h store before (a.Raised E2) (appended n items x store)) (sym f) (refusal name h store before E2 s);
 }
 
 too_long : (m : ℕ) (x : Answer) → 2 ^ 20 < m → cond (nat_le m (2 ^ 20)) x (Raises E12) ≡ Raises E12
@@ -187,7 +187,7 @@ appends_too_long h array from holds long = record {
       let p = held_length h name array items (array_held h name store before array n items s (first_belongs h name store before array (from ∷ []) s o) names row) in
       let q = held_length h name from x.items (array_held h name store before from x.object x.items s b x.names x.there) in
       let f : items_of (meaning name from) store ≡ Some x.items = ap (λ w. items_of w store) x.names ∙ ap items_of_object x.there in
-      subst (λ y. Answers name h before (a.Raised E12) (appended n items y store)) (sym f) (subst (Answers name h before (a.Raised E12)) (sym (too_long (length items + length x.items) _ (omega arith))) refl);
+      subst (λ y. Answers name h store before (a.Raised E12) (appended n items y store)) (sym f) (subst (Answers name h store before (a.Raised E12)) (sym (too_long (length items + length x.items) _ (omega arith))) (refusal name h store before E12 s));
 }
 
 pub append_start : (h : Heap) (array from : Value) → Appends h h array from (take 0)
@@ -226,8 +226,8 @@ appends h h1 array from k holds e room y = record {
       let f : items_of (meaning name from) store ≡ Some x.items = ap (λ w. items_of w store) x.names ∙ ap items_of_object x.there in
       let t = y.stands name store before n x.object items x.items s o names row x.names x.there in
       let u = subst (λ l. Stands name h1.cells (slice_set store n (ArrayObject (items ++ l))) before) (ap (λ j. take j x.items) (e ∙ q) ∙ take_whole x.items) t in
-      subst (λ y. Answers name h1 before (a.Value (Direct Invalid)) (appended n items y store)) (sym f)
-      (subst (Answers name h1 before (a.Value (Direct Invalid))) (sym (long_enough (length items + length x.items) _ (omega arith))) (gave_plain name h1 _ before Invalid u));
+      subst (λ y. Answers name h1 store before (a.Value (Direct Invalid)) (appended n items y store)) (sym f)
+      (subst (Answers name h1 store before (a.Value (Direct Invalid))) (sym (long_enough (length items + length x.items) _ (omega arith))) (gave_plain name h1 _ before Invalid u));
 }
 
 -- no item is there to be put at the end

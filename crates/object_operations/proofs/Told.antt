@@ -25,6 +25,7 @@ use Rattle.object_operations.specs.declared.receiver.Receiver.TheVariants as r
 use Rattle.object_operations.specs.declared.applied.Applied.{Applied}
 use Rattle.object_operations.specs.declared.applied.Applied.TheVariants as a
 use Rattle.object_operations.proofs.Seeing.{first_belongs}
+use Rattle.object_operations.proofs.Answering.{refusal}
 
 pub data KindOf (store : Store) : Receiver → StoreValue → Type 0 where
   of_plain : (plain : Plain) → KindOf store (receiver_of_plain plain) (Scalar plain)
@@ -69,7 +70,7 @@ pub refused : (h : Heap) (x : Value) (arguments : List Value) (row : List StoreV
 refused h x arguments row kind error e same = record {
   answers = λ name store before s o.
       let k = subst (λ y. KindOf store y (meaning name x)) (sym e) (kind_seen h name store before x s (first_belongs h name store before x arguments s o)) in
-      subst (Answers name h before (a.Raised error)) (sym (same name store (meaning name x) k)) refl;
+      subst (Answers name h store before (a.Raised error)) (sym (same name store (meaning name x) k)) (refusal name h store before error s);
 }
 
 -- what is decided for an array
@@ -82,8 +83,8 @@ on_an_array_with h h1 x arguments result method row e same given = record {
       go name store before s o (meaning name x) refl r.Array refl k;
 }
   where
-    go : (name : Naming) (store : Store) (before : Outside) → Stands name h.cells store before → AreOut (x ∷ arguments) before → (w : StoreValue) → meaning name x ≡ w → (kind : Receiver) → kind ≡ r.Array → KindOf store kind w → Answers name h1 before result (row (w ∷ map (meaning name) arguments) store)
-    go name store before s o _ f _ q (of_array n items there) = subst (Answers name h1 before result) (sym (same name n items store there)) (given.answers name store before n items s o f there)
+    go : (name : Naming) (store : Store) (before : Outside) → Stands name h.cells store before → AreOut (x ∷ arguments) before → (w : StoreValue) → meaning name x ≡ w → (kind : Receiver) → kind ≡ r.Array → KindOf store kind w → Answers name h1 store before result (row (w ∷ map (meaning name) arguments) store)
+    go name store before s o _ f _ q (of_array n items there) = subst (Answers name h1 store before result) (sym (same name n items store there)) (given.answers name store before n items s o f there)
     go name store before s o _ f _ q (of_pairs n entries there) = absurd cc
     go name store before s o _ f _ q (of_message n message there) = absurd cc
     go name store before s o _ f _ q (of_text bytes) = absurd cc
@@ -99,8 +100,8 @@ on_a_map_with h h1 x arguments result method row e same given = record {
       go name store before s o (meaning name x) refl r.Pairs refl k;
 }
   where
-    go : (name : Naming) (store : Store) (before : Outside) → Stands name h.cells store before → AreOut (x ∷ arguments) before → (w : StoreValue) → meaning name x ≡ w → (kind : Receiver) → kind ≡ r.Pairs → KindOf store kind w → Answers name h1 before result (row (w ∷ map (meaning name) arguments) store)
-    go name store before s o _ f _ q (of_pairs n entries there) = subst (Answers name h1 before result) (sym (same name n entries store there)) (given.answers name store before n entries s o f there)
+    go : (name : Naming) (store : Store) (before : Outside) → Stands name h.cells store before → AreOut (x ∷ arguments) before → (w : StoreValue) → meaning name x ≡ w → (kind : Receiver) → kind ≡ r.Pairs → KindOf store kind w → Answers name h1 store before result (row (w ∷ map (meaning name) arguments) store)
+    go name store before s o _ f _ q (of_pairs n entries there) = subst (Answers name h1 store before result) (sym (same name n entries store there)) (given.answers name store before n entries s o f there)
     go name store before s o _ f _ q (of_array n items there) = absurd cc
     go name store before s o _ f _ q (of_message n message there) = absurd cc
     go name store before s o _ f _ q (of_text bytes) = absurd cc
@@ -226,7 +227,7 @@ refuses_message h x arguments method kind error e f d = refused h x arguments (o
 
 -- a number of arguments that no method of this name takes
 pub wrong_number : (h : Heap) (array : Value) (arguments : List Value) (row : ArrayRow) → ((n : ℕ) (items ws : List StoreValue) (store : Store) (name : Naming) → row n items (map (meaning name) arguments) store ≡ Raises E6) → AppliesToArray h h array arguments (a.Raised E6) row
-wrong_number h array arguments row same = record { answers = λ name store before n items s o names there. subst (Answers name h before (a.Raised E6)) (sym (same n items [] store name)) refl }
+wrong_number h array arguments row same = record { answers = λ name store before n items s o names there. subst (Answers name h store before (a.Raised E6)) (sym (same n items [] store name)) (refusal name h store before E6 s) }
 
 pub wrong_map_number : (h : Heap) (pairs : Value) (arguments : List Value) (row : MapRow) → ((n : ℕ) (entries : List (Entry StoreValue)) (store : Store) (name : Naming) → row n entries (map (meaning name) arguments) store ≡ Raises E6) → AppliesToMap h h pairs arguments (a.Raised E6) row
-wrong_map_number h pairs arguments row same = record { answers = λ name store before n entries s o names there. subst (Answers name h before (a.Raised E6)) (sym (same n entries store name)) refl }
+wrong_map_number h pairs arguments row same = record { answers = λ name store before n entries s o names there. subst (Answers name h store before (a.Raised E6)) (sym (same n entries store name)) (refusal name h store before E6 s) }

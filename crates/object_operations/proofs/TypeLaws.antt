@@ -28,5 +28,5 @@ pub names_type : (h h1 : Heap) (v result : Value) (bytes : List ℕ) → bytes �
 names_type h h1 v result bytes e makes = record {
   answers = λ name store before s o.
       let f = type_seen h name store before v s (first_belongs h name store before v [] s o) in
-      subst (λ t. Answers name h1 before (a.Value result) (Gives (Words t) store)) (e ∙ sym f) (gave_text name h h1 store before result bytes s makes);
+      subst (λ t. Answers name h1 store before (a.Value result) (Gives (Words t) store)) (e ∙ sym f) (gave_text name h h1 store before result bytes s makes);
 }
