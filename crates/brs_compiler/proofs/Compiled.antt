@@ -4,7 +4,6 @@ use Rattle.std.specs.Prelude.{All}
 use Rattle.std.proofs.lemmas.List.Elements.{All-nil, All-cons}
 use Rattle.brs_grammar.specs.declared.tree.FileTree.{FileTree}
 use Rattle.brs_grammar.specs.declared.tree.NamedFunction.{NamedFunction}
-use Rattle.brs_grammar.specs.View.{named_of}
 use Rattle.brs_code.specs.declared.code.Code.{Code}
 use Rattle.code_drafts.specs.declared.draft.Draft.{Draft}
 use Rattle.code_relation.specs.Standing.{FunctionForm, CodeAt, named_form}

@@ -1,6 +1,6 @@
 -- The code of a file keeps the file part of the rule.
-use Rattle.std.proofs.Common.{◌≡◌, ℕ, zero, suc, ◌+◌, ◌-◌, ◌<◌, ◌≤◌, List, [], ◌∷◌, ◌++◌, length, map, reverse, Option, Some, refl, sym, ap, ◌∙◌, arith, subst}
-use Rattle.std.specs.Prelude.{slice_get, All}
+use Rattle.std.proofs.Common.{◌≡◌, ℕ, ◌+◌, ◌-◌, ◌<◌, ◌≤◌, List, [], ◌∷◌, length, map, reverse, Option, refl, arith, subst}
+use Rattle.std.specs.Prelude.{All}
 use Rattle.std.proofs.lemmas.List.Elements.{All-nil, All-cons, All-head, All-tail}
 use Rattle.std.proofs.lemmas.Option.{slice_get_within}
 use Rattle.brs_grammar.specs.declared.tree.TypeWord.{TypeWord}
@@ -27,7 +27,7 @@ use Rattle.code_lowering.specs.Lowered.{CodeOf, FunctionOf, function_of, NamedOf
 use Rattle.code_lowering.specs.Takes.{FormTakes, HeadTakes, FormsTake, ParamsTake, DoingTakes, TodoTakes, CalleeTakes, FunctionTakes, form_draft}
 use Rattle.code_lowering.proofs.Split.{function_one, opens_function}
 use Rattle.code_lowering.proofs.Heads.{alone}
-use Rattle.brs_compiler.proofs.RuleParts.{each_of, keeps_at, Functions, functions_none, functions_both, functions_one, Ruled}
+use Rattle.brs_compiler.proofs.RuleParts.{each_of, keeps_at, Functions, functions_none, functions_both, functions_one}
 use Rattle.brs_compiler.proofs.RuleForms.{FormRule, FormsRule, OneRule, no_forms_rule, more_forms_rule, free_form_rule, tested_form_rule, plain_rule, number_rule, word_rule, pairs_rule, name_rule}
 use Rattle.brs_compiler.proofs.RuleStatements.{TodoRule, DoingRule, finish_rule, first_rule, set_rule, drop_rule, print_rule, return_rule, exit_rule, update_rule, if_rule, while_rule, for_rule, each_rule}
 use Rattle.brs_compiler.proofs.RuleFunctions.{ParamsRule, unnamed_rule, required_rule, optional_rule, ended, Whole, function_rule}
@@ -39,7 +39,7 @@ first_is all n line ps needed value size code f m (function_of r c h) = h.first_
 -- an anonymous function
 anonymous_rule : (all : List Function) (f : Function) (ps : Params) (type : Option TypeWord) (body : Todo) (line k : ℕ) → f.first ≡ 0 → 0 ≡ k → ((h : Function) → h.first ≡ 0 → ParamsRule all h ps) → ((h : Function) → h.first ≡ 0 → TodoRule all h body)
     → OneRule all f (draft.Function line (reverse (params_drafts 0 ps (ended all f body))) (needed_of ps) (value_type type) (length (ended all f body)) (reverse (params_code 0 ps (ended all f body)))) k 1
-anonymous_rule all f ps type body line k own single a b W p n o q m r most c =
+anonymous_rule all f ps type body line k own single a b p n o q m r most c =
     let rest = ended all f body in
     let s = alone all f p n o (draft.Function line (reverse (params_drafts 0 ps rest)) (needed_of ps) (value_type type) (length rest) (reverse (params_code 0 ps rest))) q m r c in
     let w = function_one all f p n o line (reverse (params_drafts 0 ps rest)) (needed_of ps) (value_type type) (length rest) (reverse (params_code 0 ps rest)) m r s.one in
@@ -57,21 +57,21 @@ anonymous_rule all f ps type body line k own single a b W p n o q m r most c =
 module _ (all : List Function) where
   mutual
     form_rule : (x : Form) (f : Function) → f.first ≡ 0 → FormTakes x → FormRule all f x
-    form_rule (Node g.And at none) f z t W p n o q m r c = absurd (omega (arith, t.0 0))
-    form_rule (Node g.And at (more x none)) f z t W p n o q m r c = absurd (omega (arith, t.0 0))
-    form_rule (Node g.And at (more x (more y (more u us)))) f z t W p n o q m r c = absurd (omega (arith, t.0 0))
-    form_rule (Node g.And at (more x (more y none))) f z t W p n o q m r c =
+    form_rule (Node g.And at none) f z t p n o q m r c = absurd (omega (arith, t.0 0))
+    form_rule (Node g.And at (more x none)) f z t p n o q m r c = absurd (omega (arith, t.0 0))
+    form_rule (Node g.And at (more x (more y (more u us)))) f z t p n o q m r c = absurd (omega (arith, t.0 0))
+    form_rule (Node g.And at (more x (more y none))) f z t p n o q m r c =
         tested_form_rule all f at x y i.AndTest op.And (λ p k. refl)
         (λ a p o line r q e s h most l k. keeps_at f a p o (i.AndTest e) line r q s h most l k (λ j. absurd (cc)) tt) (λ p o line r e s. s.leaves)
-        (form_rule x f z t.2.0) (form_rule y f z t.2.1.0) (plain_rule all f (i.Binary op.And) at.line 2 1 (λ p. refl) refl refl refl tt) W p n o q m r c
-    form_rule (Node g.Or at none) f z t W p n o q m r c = absurd (omega (arith, t.0 0))
-    form_rule (Node g.Or at (more x none)) f z t W p n o q m r c = absurd (omega (arith, t.0 0))
-    form_rule (Node g.Or at (more x (more y (more u us)))) f z t W p n o q m r c = absurd (omega (arith, t.0 0))
-    form_rule (Node g.Or at (more x (more y none))) f z t W p n o q m r c =
+        (form_rule x f z t.2.0) (form_rule y f z t.2.1.0) (plain_rule all f (i.Binary op.And) at.line 2 1 (λ p. refl) refl refl refl tt) p n o q m r c
+    form_rule (Node g.Or at none) f z t p n o q m r c = absurd (omega (arith, t.0 0))
+    form_rule (Node g.Or at (more x none)) f z t p n o q m r c = absurd (omega (arith, t.0 0))
+    form_rule (Node g.Or at (more x (more y (more u us)))) f z t p n o q m r c = absurd (omega (arith, t.0 0))
+    form_rule (Node g.Or at (more x (more y none))) f z t p n o q m r c =
         tested_form_rule all f at x y i.OrTest op.Or (λ p k. refl)
         (λ a p o line r q e s h most l k. keeps_at f a p o (i.OrTest e) line r q s h most l k (λ j. absurd (cc)) tt) (λ p o line r e s. s.leaves)
-        (form_rule x f z t.2.0) (form_rule y f z t.2.1.0) (plain_rule all f (i.Binary op.Or) at.line 2 1 (λ p. refl) refl refl refl tt) W p n o q m r c
-    form_rule (Node h at xs) f z t W p n o q m r c = free_form_rule all f h at xs (forms_rule xs f z t.2) (head_rule h f z at.line (count xs) t.0 t.1) W p n o q m r c
+        (form_rule x f z t.2.0) (form_rule y f z t.2.1.0) (plain_rule all f (i.Binary op.Or) at.line 2 1 (λ p. refl) refl refl refl tt) p n o q m r c
+    form_rule (Node h at xs) f z t p n o q m r c = free_form_rule all f h at xs (forms_rule xs f z t.2) (head_rule h f z at.line (count xs) t.0 t.1) p n o q m r c
 
     forms_rule : (xs : Forms) (f : Function) → f.first ≡ 0 → FormsTake xs → FormsRule all f xs
     forms_rule none f z t = no_forms_rule all f
@@ -134,6 +134,8 @@ module _ (all : List Function) where
 
   file_rule : (xs : List FunctionForm) (n : ℕ) (gs : List Function) (m : ℕ) → All FunctionTakes xs → FileOf all n (map form_draft xs) gs m → Named n m gs
   file_rule [] n [] m t lowered.none = record { order = omega arith; functions = functions_none all n n (omega arith); rules = All-nil (FunctionRule (length all)) }
+  file_rule [] n (g ∷ gs) m t a = elim a [ ]
+  file_rule (x ∷ xs) n [] m t a = elim a [ ]
   file_rule (x ∷ xs) n (g ∷ gs) m t (next_function k a rest) =
       let one = callee_rule n x.line x.callee g k (All-head FunctionTakes x xs t) a in
       let others = file_rule xs k gs m (All-tail FunctionTakes x xs t) rest in

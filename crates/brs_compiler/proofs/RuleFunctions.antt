@@ -1,5 +1,5 @@
 -- The code of functions keeps the rule.
-use Rattle.std.proofs.Common.{◌≡◌, ℕ, zero, suc, ◌+◌, ◌-◌, ◌<◌, ◌≤◌, List, [], ◌∷◌, ◌++◌, length, reverse, Option, Some, refl, sym, ap, ◌∙◌, arith, subst, length-reverse}
+use Rattle.std.proofs.Common.{◌≡◌, ℕ, ◌+◌, ◌-◌, ◌≤◌, List, [], ◌∷◌, ◌++◌, length, reverse, Option, Some, refl, sym, ◌∙◌, arith, subst}
 use Rattle.std.specs.Prelude.{slice_get, All}
 use Rattle.std.proofs.lemmas.List.{reverse-reverse}
 use Rattle.std.proofs.lemmas.List.Elements.{All-nil, All-cons}
@@ -11,14 +11,14 @@ use Rattle.brs_code.specs.declared.function.Function.{Function}
 use Rattle.brs_code.specs.declared.function.Parameter.{Parameter}
 use Rattle.brs_code.specs.declared.instr.Instr.TheVariants as i
 use Rattle.brs_code.specs.Rule.{LeadsTo, ParameterRule, FunctionRule}
-use Rattle.code_drafts.specs.declared.draft.Draft.{Draft, out-Draft}
+use Rattle.code_drafts.specs.declared.draft.Draft.{Draft}
 use Rattle.code_drafts.specs.declared.draft.Draft.TheVariants as draft
 use Rattle.code_drafts.specs.DraftCode.{form_code, params_code, params_drafts, todo_code, no_loops}
 use Rattle.code_relation.specs.Heads.{value_type, needed_of}
-use Rattle.code_lowering.specs.Lowered.{Stands, ParameterOf, ParametersOf, CodeOf, FunctionOf, function_of}
+use Rattle.code_lowering.specs.Lowered.{ParametersOf, CodeOf, FunctionOf, function_of}
 use Rattle.code_lowering.proofs.Split.{parts, first_of, code_ends, plain_one}
 use Rattle.code_lowering.proofs.Heads.{alone, first_alone}
-use Rattle.brs_compiler.proofs.RuleParts.{Keeps, keeps_none, keeps_both, keeps_at, keeps_all, leads_front, leads_here, leads_as, Functions, functions_none, functions_both, Ruled}
+use Rattle.brs_compiler.proofs.RuleParts.{Keeps, keeps_none, keeps_both, keeps_at, keeps_all, leads_front, leads_here, leads_as, Functions, functions_none, functions_both}
 use Rattle.brs_compiler.proofs.RuleForms.{FormRule, plain_rule}
 use Rattle.brs_compiler.proofs.RuleStatements.{Ways, TodoRule}
 
@@ -85,8 +85,8 @@ module _ (all : List Function) (f : Function) where
       let s = parts all f p n o (form_code e) (bind ∷ behind) q m r c in
       let t = first_of all f s.at s.number s.operands bind behind q m r s.back in
       let w = plain_one all f s.at s.number s.operands (i.Bind number) at.line t.number t.operands t.one in
-      let one = b (Unit {0}) p n o s.at s.number s.operands s.front in
-      let two = plain_rule all f (i.Bind number) at.line 1 0 (λ p. refl) refl refl refl (omega (arith, many)) (Unit {0}) s.at s.number s.operands (s.at + 1) t.number t.operands (omega (arith, one.leaves))
+      let one = b p n o s.at s.number s.operands s.front in
+      let two = plain_rule all f (i.Bind number) at.line 1 0 (λ p. refl) refl refl refl (omega (arith, many)) s.at s.number s.operands (s.at + 1) t.number t.operands (omega (arith, one.leaves))
       (first_alone all f s.at s.number s.operands bind t.number t.operands t.one) in
       let bound : t.operands ≡ 0 = omega (arith, one.leaves, two.leaves, none) in
       let d = a (number + 1) rest xs (s.at + 1) t.number t.operands q m r bound (omega (arith, many)) had.1 t.rest in
@@ -128,7 +128,7 @@ module _ (all : List Function) (f : Function) where
       let q = length (reverse code) in
       let c' : CodeOf all f 0 n 0 code q m r = subst (λ l. CodeOf all f 0 n 0 l q m r) (reverse-reverse code) c in
       let had : ParametersOf f.names q drafts f.parameters = subst (λ l. ParametersOf f.names q l f.parameters) (reverse-reverse drafts) h.parameters_are in
-      let d = a 0 (ended body) f.parameters 0 n 0 q m r refl refl had c' in
+      let d = a 0 (ended body) f.parameters 0 n 0 q m r refl (omega arith) had c' in
       let s = parts all f d.at d.first d.operands (todo_code no_loops body) (draft.Plain i.End 0 ∷ []) q m r d.back in
       let e = alone all f s.at s.number s.operands (draft.Plain i.End 0) q m r s.back in
       let w = plain_one all f s.at s.number s.operands i.End 0 m r e.one in

@@ -1,5 +1,5 @@
 -- Code that keeps the rule, part by part.
-use Rattle.std.proofs.Common.{◌≡◌, ℕ, zero, suc, ◌+◌, ◌-◌, ◌<◌, ◌≤◌, Bool, true, false, List, [], ◌∷◌, ◌++◌, length, Option, None, Some, refl, sym, ap, ◌∙◌, arith, subst, inl, inr}
+use Rattle.std.proofs.Common.{◌≡◌, ℕ, suc, ◌+◌, ◌-◌, ◌<◌, ◌≤◌, true, List, [], ◌∷◌, length, Option, None, Some, refl, sym, ap, ◌∙◌, arith, subst, inl, inr}
 use Rattle.std.specs.Prelude.{slice_get, IfSome, IsSomeAnd, All}
 use Rattle.std.proofs.lemmas.Bool.{cases_lt}
 use Rattle.std.proofs.lemmas.List.Elements.{All-nil, All-cons}
@@ -14,9 +14,9 @@ use Rattle.brs_code.specs.Rule.{LeadsTo, NamesExist, InstructionRule, FunctionRu
 use Rattle.code_drafts.specs.declared.draft.Draft.{Draft, out-Draft}
 use Rattle.code_drafts.specs.declared.draft.Draft.TheOpen as opened
 use Rattle.code_drafts.specs.declared.draft.Draft.TheOpen.{Draft-F}
-use Rattle.lowering_parts.specs.Operands.{after, after_leaving}
+use Rattle.lowering_parts.specs.Operands.{after_leaving}
 use Rattle.lowering_parts.specs.Places.{at_place, with_index}
-use Rattle.code_lowering.specs.Lowered.{Stands, OneAt, plain, slot, word, words, marks, function, CodeOf, end, next}
+use Rattle.code_lowering.specs.Lowered.{Stands, OneAt, plain, slot, word, words, marks, function, CodeOf, next}
 use Rattle.code_lowering.proofs.Split.{nothing}
 
 -- ---- lists
@@ -119,6 +119,10 @@ pub record Ruled (all : List Function) (f : Function) (W : Type 0) (p n q m r e 
 
 pub ruled_as : (all : List Function) (f : Function) (W : Type 0) (p n q m r e e' : ℕ) → e ≡ e' → Ruled all f W p n q m r e → Ruled all f W p n q m r e'
 ruled_as all f W p n q m r e e' z a = record { order = a.order; functions = a.functions; leaves = a.leaves ∙ z; keeps = a.keeps }
+
+-- code that keeps the rule whatever else holds
+pub ruled_any : (all : List Function) (f : Function) (W : Type 0) (p n q m r e : ℕ) → Ruled all f (Unit {0}) p n q m r e → Ruled all f W p n q m r e
+ruled_any all f W p n q m r e a = record { order = a.order; functions = a.functions; leaves = a.leaves; keeps = λ l w. a.keeps l tt }
 
 pub ruled_none : (all : List Function) (f : Function) (W : Type 0) (p n q m r e : ℕ) → p ≡ q → n ≡ m → r ≡ e → Ruled all f W p n q m r e
 ruled_none all f W p n q m r e z y x = record {

@@ -1,7 +1,7 @@
 -- The code of statements keeps the rule.
-use Rattle.std.proofs.Common.{◌≡◌, ℕ, zero, suc, ◌+◌, ◌-◌, ◌<◌, ◌≤◌, Bool, true, false, List, [], ◌∷◌, ◌++◌, length, map, take, drop, Option, None, Some, refl, sym, ap, ◌∙◌, arith, subst, if◌then◌else◌}
-use Rattle.std.specs.Prelude.{slice_get, count_by}
-use Rattle.std.proofs.lemmas.List.{append-nil, length-map}
+use Rattle.std.proofs.Common.{◌≡◌, ℕ, zero, suc, ◌+◌, ◌-◌, ◌<◌, ◌≤◌, Bool, true, false, List, [], ◌∷◌, ◌++◌, length, map, None, Some, refl, sym, ap, ◌∙◌, arith, subst, if◌then◌else◌}
+use Rattle.std.specs.Prelude.{count_by}
+use Rattle.std.proofs.lemmas.List.{length-map}
 use Rattle.std.proofs.lemmas.Option.{slice_get_within}
 use Rattle.brs_tokens.specs.declared.place.Place.{Place}
 use Rattle.brs_grammar.specs.declared.tree.LoopKind.{LoopKind}
@@ -14,18 +14,18 @@ use Rattle.brs_code.specs.declared.function.Function.{Function}
 use Rattle.brs_code.specs.declared.function.Mark.{Mark}
 use Rattle.brs_code.specs.declared.instr.Instr.{Instr}
 use Rattle.brs_code.specs.declared.instr.Instr.TheVariants as i
-use Rattle.brs_code.specs.Instruction.{pops, goes_on, turn, is_free_turn}
+use Rattle.brs_code.specs.Instruction.{pops, goes_on, turn}
 use Rattle.brs_code.specs.Rule.{LeadsTo, NamesExist, is_value}
-use Rattle.code_drafts.specs.declared.draft.Draft.{Draft, out-Draft}
+use Rattle.code_drafts.specs.declared.draft.Draft.{Draft}
 use Rattle.code_drafts.specs.declared.draft.Draft.TheVariants as draft
-use Rattle.code_drafts.specs.DraftCode.{form_code, forms_code, doing_code, todo_code, name_draft, keep_draft, set_draft, farther, inside_for, inside_while}
+use Rattle.code_drafts.specs.DraftCode.{form_code, forms_code, doing_code, todo_code, keep_draft, set_draft, farther, inside_for, inside_while}
 use Rattle.code_relation.specs.declared.exits.Exits.{Exits}
-use Rattle.code_relation.specs.Heads.{count, set_instr, keep_instr, name_instr, return_instr, for_instr, mark_of, exit_instr, update_operator}
+use Rattle.code_relation.specs.Heads.{count, set_instr, keep_instr, return_instr, for_instr, mark_of, update_operator}
 use Rattle.lowering_parts.specs.Places.{at_place, with_index}
 use Rattle.code_lowering.specs.Lowered.{Stands, CodeOf}
-use Rattle.code_lowering.proofs.Split.{parts, first_of, nothing, code_ends, plain_one, slot_one, word_one, marks_one}
+use Rattle.code_lowering.proofs.Split.{parts, first_of, nothing, code_ends, plain_one, slot_one, marks_one}
 use Rattle.code_lowering.proofs.Heads.{alone, first_alone}
-use Rattle.brs_compiler.proofs.RuleParts.{Keeps, keeps_both, keeps_at, leads_front, leads_one, leads_here, leads_as, Functions, functions_none, functions_both, Ruled, ruled_as, ruled_none, ruled_both, ruled_one}
+use Rattle.brs_compiler.proofs.RuleParts.{Keeps, keeps_both, keeps_at, leads_front, leads_here, leads_as, Functions, functions_none, functions_both, Ruled, ruled_as, ruled_any, ruled_none, ruled_both, ruled_one}
 use Rattle.brs_compiler.proofs.RuleForms.{FormRule, FormsRule, OneRule, plain_rule, word_rule, slot_rule, name_rule}
 
 -- ---- where an `exit` leads
@@ -88,7 +88,7 @@ module _ (all : List Function) (f : Function) where
       let s = parts all f p n o (forms_code xs) (doing ++ behind) q m r c in
       let t = parts all f s.at s.number s.operands doing behind q m r s.back in
       let ends : q ≡ t.at + length behind = code_ends all f t.at t.number t.operands behind q m r t.back in
-      let one = a (Ways f q o x) p n o s.at s.number s.operands s.front in
+      let one = a p n o s.at s.number s.operands s.front in
       let two = b there s.at s.number s.operands o t.at t.number t.operands one.leaves t.front in
       let three = e x t.at t.number t.operands q m r t.back in
       record {
@@ -98,7 +98,7 @@ module _ (all : List Function) (f : Function) where
         keeps = λ l w.
             let lt = leads_front all f t.at t.number t.operands behind q m r t.back l in
             let ls = leads_front all f s.at s.number s.operands doing t.at t.number t.operands t.front lt in
-            keeps_both f (length all) p s.at q (one.keeps ls w)
+            keeps_both f (length all) p s.at q (one.keeps ls tt)
             (keeps_both f (length all) s.at t.at q (two.keeps lt (ways_farther f t.at q o (length behind) x ends w)) (three.keeps l (ways_as f q o t.operands x (sym two.leaves) w)));
       }
 
@@ -106,7 +106,7 @@ module _ (all : List Function) (f : Function) where
 
   one_rule : (d : Draft) (k : ℕ) → OneRule all f d k 0 → (W : Type 0) (p n w o q m r : ℕ) → w ≡ o + k → CodeOf all f p n w (d ∷ []) q m r → Ruled all f W p n q m r o
   one_rule d k a W p n w o q m r e c =
-      ruled_as all f W p n q m r (w - k + 0) o (omega (arith, e)) (a W p n w q m r (omega (arith, e)) c)
+      ruled_any all f W p n q m r o (ruled_as all f (Unit {0}) p n q m r (w - k + 0) o (omega (arith, e)) (a p n w q m r (omega (arith, e)) c))
 
   pub set_one : (aim : g.Aim) (line k : ℕ) → ((j : ℕ) → pops (set_instr aim j) ≡ k) → OneRule all f (set_draft aim line) k 0
   set_one (g.ToName x) line k takes = slot_rule all f (i.Store 0) x line k 0 i.Store (λ p j. refl) (λ j. refl) (λ j. refl) takes (λ j h. h)
@@ -121,11 +121,11 @@ module _ (all : List Function) (f : Function) where
       one_rule (draft.Plain i.Drop line) k (plain_rule all f i.Drop line k 0 (λ p. refl) refl refl takes tt) (Ways f q o x) p n w o q m r e c
 
   print_one : (ms : List Mark) (line k : ℕ) → count_by is_value ms ≡ k → OneRule all f (draft.Marks (i.Print 0 (length ms) k) line ms) k 0
-  print_one ms line k same W p n o q m r most c =
+  print_one ms line k same p n o q m r most c =
       let print = i.Print 0 (length ms) k in
       let a = alone all f p n o (draft.Marks print line ms) q m r c in
       let w = marks_one all f p n o print line ms m r a.one in
-      ruled_one all f W p n o (i.Print w.index (length ms) k) line q m r k 0 refl refl refl most (w.within, ap (count_by is_value) w.names ∙ same) w.stands a.next_place w.number
+      ruled_one all f (Unit {0}) p n o (i.Print w.index (length ms) k) line q m r k 0 refl refl refl most (w.within, ap (count_by is_value) w.names ∙ same) w.stands a.next_place w.number
 
   pub print_rule : (marks : List g.Mark) (line k : ℕ) → count_by is_value (map mark_of marks) ≡ k → DoingRule all f (g.Print marks) line k
   print_rule marks line k same x p n w o q m r e c =
@@ -179,39 +179,39 @@ module _ (all : List Function) (f : Function) where
 
   -- what reads a target leaves its operands and the value
   keep_one : (aim : g.Aim) (line k : ℕ) → ((j : ℕ) → pops (keep_instr aim j) ≡ k) → OneRule all f (keep_draft aim line) k (k + 1)
-  keep_one (g.ToName x) line k takes W p n o q m r most c =
+  keep_one (g.ToName x) line k takes p n o q m r most c =
       let none : k ≡ 0 = no_operands (is_m x) (takes 0) in
-      ruled_as all f W p n q m r (o - k + 1) (o - k + (k + 1)) (omega (arith, none)) (name_rule all f x line k (takes 0) W p n o q m r most c)
+      ruled_as all f (Unit {0}) p n q m r (o - k + 1) (o - k + (k + 1)) (omega (arith, none)) (name_rule all f x line k (takes 0) p n o q m r most c)
     where
       no_operands : (b : Bool) → pops (if b then i.LoadM else i.Load 0) ≡ k → k ≡ 0
       no_operands true h = sym h
       no_operands false h = sym h
-  keep_one (g.ToMember x) line k takes W p n o q m r most c =
+  keep_one (g.ToMember x) line k takes p n o q m r most c =
       let one : 1 ≡ k = takes 0 in
-      ruled_as all f W p n q m r (o - k + 2) (o - k + (k + 1)) (omega (arith, one))
-      (word_rule all f (i.KeepMember 0) (readable x) line k 2 i.KeepMember (λ p j. refl) (λ j. refl) (λ j. refl) takes (λ j h. h) W p n o q m r most c)
-  keep_one g.ToIndex line k takes W p n o q m r most c =
+      ruled_as all f (Unit {0}) p n q m r (o - k + 2) (o - k + (k + 1)) (omega (arith, one))
+      (word_rule all f (i.KeepMember 0) (readable x) line k 2 i.KeepMember (λ p j. refl) (λ j. refl) (λ j. refl) takes (λ j h. h) p n o q m r most c)
+  keep_one g.ToIndex line k takes p n o q m r most c =
       let two : 2 ≡ k = takes 0 in
-      ruled_as all f W p n q m r (o - k + 3) (o - k + (k + 1)) (omega (arith, two)) (plain_rule all f i.KeepIndex line k 3 (λ p. refl) refl refl (takes 0) tt W p n o q m r most c)
+      ruled_as all f (Unit {0}) p n q m r (o - k + 3) (o - k + (k + 1)) (omega (arith, two)) (plain_rule all f i.KeepIndex line k 3 (λ p. refl) refl refl (takes 0) tt p n o q m r most c)
 
   pub update_rule : (aim : g.Aim) (sign : UpdateSign) (at : Place) (e : Form) (line k : ℕ) → ((j : ℕ) → pops (keep_instr aim j) ≡ k) → ((j : ℕ) → pops (set_instr aim j) ≡ k + 1) → FormRule all f e
       → DoingRule all f (g.Update aim sign at e) line k
   update_rule aim sign at e line k keeps sets a x p n w o q m r z c =
-      let W = Ways f q o x in
+      let W = Unit {0} in
       let apply = draft.Plain (i.Binary (update_operator sign)) at.line in
       let set = set_draft aim line in
       let s = first_of all f p n w (keep_draft aim line) (form_code e ++ apply ∷ set ∷ []) q m r c in
       let t = parts all f (p + 1) s.number s.operands (form_code e) (apply ∷ set ∷ []) q m r s.rest in
       let u = first_of all f t.at t.number t.operands apply (set ∷ []) q m r t.back in
-      let one = keep_one aim line k keeps W p n w (p + 1) s.number s.operands (omega (arith, z)) (first_alone all f p n w (keep_draft aim line) s.number s.operands s.one) in
-      let two = a W (p + 1) s.number s.operands t.at t.number t.operands t.front in
-      let three = plain_rule all f (i.Binary (update_operator sign)) at.line 2 1 (λ p. refl) refl refl refl tt W t.at t.number t.operands (t.at + 1) u.number u.operands (omega (arith, one.leaves, two.leaves, z))
+      let one = keep_one aim line k keeps p n w (p + 1) s.number s.operands (omega (arith, z)) (first_alone all f p n w (keep_draft aim line) s.number s.operands s.one) in
+      let two = a (p + 1) s.number s.operands t.at t.number t.operands t.front in
+      let three = plain_rule all f (i.Binary (update_operator sign)) at.line 2 1 (λ p. refl) refl refl refl tt t.at t.number t.operands (t.at + 1) u.number u.operands (omega (arith, one.leaves, two.leaves, z))
       (first_alone all f t.at t.number t.operands apply u.number u.operands u.one) in
-      let four = set_one aim line (k + 1) sets W (t.at + 1) u.number u.operands q m r (omega (arith, one.leaves, two.leaves, three.leaves, z)) u.rest in
+      let four = set_one aim line (k + 1) sets (t.at + 1) u.number u.operands q m r (omega (arith, one.leaves, two.leaves, three.leaves, z)) u.rest in
       let last = ruled_both all f W t.at t.number (t.at + 1) u.number u.operands q m r (t.operands - 2 + 1) (u.operands - (k + 1) + 0) (set ∷ []) three u.rest four in
       let back = ruled_both all f W (p + 1) s.number t.at t.number t.operands q m r (s.operands + 1) (u.operands - (k + 1) + 0) (apply ∷ set ∷ []) two t.back last in
-      ruled_as all f W p n q m r (u.operands - (k + 1) + 0) o (omega (arith, one.leaves, two.leaves, three.leaves, z))
-      (ruled_both all f W p n (p + 1) s.number s.operands q m r (w - k + (k + 1)) (u.operands - (k + 1) + 0) (form_code e ++ apply ∷ set ∷ []) one s.rest back)
+      ruled_any all f (Ways f q o x) p n q m r o (ruled_as all f W p n q m r (u.operands - (k + 1) + 0) o (omega (arith, one.leaves, two.leaves, three.leaves, z))
+      (ruled_both all f W p n (p + 1) s.number s.operands q m r (w - k + (k + 1)) (u.operands - (k + 1) + 0) (form_code e ++ apply ∷ set ∷ []) one s.rest back))
 
   pub if_rule : (a b : Todo) (line k : ℕ) → k ≡ 1 → TodoRule all f a → TodoRule all f b → DoingRule all f (g.If a b) line k
   if_rule a b line k single ra rb x p n w o q m r e c =
@@ -263,7 +263,6 @@ module _ (all : List Function) (f : Function) where
       let block = todo_code (inside_while x) body in
       let branch = i.Branch (length block + 1) in
       let again = i.Again (length test + 1 + length block) in
-      let W = Ways f q o x in
       let s = first_of all f p n w (draft.Plain i.While line) (test ++ draft.Plain branch line ∷ (block ++ draft.Plain again line ∷ [])) q m r c in
       let v = plain_one all f p n w i.While line s.number s.operands s.one in
       let t = parts all f (p + 1) s.number s.operands test (draft.Plain branch line ∷ (block ++ draft.Plain again line ∷ [])) q m r s.rest in
@@ -276,7 +275,7 @@ module _ (all : List Function) (f : Function) where
       let block_ends : b.at ≡ t.at + 1 + length block = code_ends all f (t.at + 1) u.number u.operands block b.at b.number b.operands b.front in
       let begun : s.operands ≡ w - 0 + 0 = v.stands.leaves in
       let started : s.operands ≡ o = omega (arith, begun, e', none) in
-      let one = re W (p + 1) s.number s.operands t.at t.number t.operands t.front in
+      let one = re (p + 1) s.number s.operands t.at t.number t.operands t.front in
       let branched : u.operands ≡ t.operands - 1 + 0 = y.stands.leaves in
       let most : 1 ≤ t.operands = omega (arith, one.leaves) in
       let tested : u.operands ≡ o = omega (arith, branched, one.leaves, started) in
@@ -297,7 +296,7 @@ module _ (all : List Function) (f : Function) where
             let inside = ways_while f b.at q o x (sym d.next_place) (leads_as f q q r o refl left l) h in
             keeps_both f (length all) p (p + 1) q
             (keeps_at f (length all) p w i.While line s.operands (p + 1) v.stands refl (nothing_taken w) (leads_as f (p + 1) (p + 1) s.operands (w - 0 + 0) refl begun ls) tt (λ j. tt) tt)
-            (keeps_both f (length all) (p + 1) t.at q (one.keeps lt h)
+            (keeps_both f (length all) (p + 1) t.at q (one.keeps lt tt)
             (keeps_both f (length all) t.at (t.at + 1) q
             (keeps_at f (length all) t.at t.operands (at_place t.at branch) line u.operands (t.at + 1) y.stands refl most
             (leads_as f (t.at + 1) (t.at + 1) u.operands (t.operands - 1 + 0) refl branched lu)
@@ -335,7 +334,6 @@ module _ (all : List Function) (f : Function) where
 
   pub for_rule : (at : Place) (name : Text) (body : Todo) (line k : ℕ) → ((j : ℕ) → pops (for_instr k j) ≡ k) → TodoRule all f body → DoingRule all f (g.For at name body) line k
   for_rule at name body line k takes rb x p n w o q m r e c =
-      let W = Ways f q o x in
       let block = todo_code (inside_for 2 x) body in
       let begin = draft.Slot (for_instr k 0) line name in
       let test = i.ForTest 0 (length block + 1) in
@@ -347,7 +345,7 @@ module _ (all : List Function) (f : Function) where
       let d = alone all f b.at b.number b.operands (draft.Slot again line name) q m r b.back in
       let z = slot_one all f b.at b.number b.operands again line name m r d.one in
       let block_ends : b.at ≡ p + 1 + 1 + length block = code_ends all f (p + 1 + 1) t.number t.operands block b.at b.number b.operands b.front in
-      let one = slot_rule all f (for_instr k 0) name line k 2 (for_instr k) (λ a j. for_stays a k j) (for_goes k) (for_turns k) takes (for_names k) W p n w (p + 1) s.number s.operands (omega (arith, e))
+      let one = slot_rule all f (for_instr k 0) name line k 2 (for_instr k) (λ a j. for_stays a k j) (for_goes k) (for_turns k) takes (for_names k) p n w (p + 1) s.number s.operands (omega (arith, e))
       (first_alone all f p n w begin s.number s.operands s.one) in
       let started : s.operands ≡ o + 2 = omega (arith, one.leaves, e) in
       let passed : t.operands ≡ s.operands - 2 + 2 = v.stands.leaves in
@@ -367,7 +365,7 @@ module _ (all : List Function) (f : Function) where
             let lb = leads_here f b.at b.operands (with_index z.index (at_place b.at again)) line r z.stands in
             let lt = leads_front all f (p + 1 + 1) t.number t.operands block b.at b.number b.operands b.front lb in
             let inside = ways_for f b.at q o 2 x (sym d.next_place) (leads_as f q q r o refl left l) h in
-            keeps_both f (length all) p (p + 1) q (one.keeps ls h)
+            keeps_both f (length all) p (p + 1) q (one.keeps ls tt)
             (keeps_both f (length all) (p + 1) (p + 1 + 1) q
             (keeps_at f (length all) (p + 1) s.operands (with_index v.index (at_place (p + 1) test)) line t.operands (p + 1 + 1) v.stands refl most
             (leads_as f (p + 1 + 1) (p + 1 + 1) t.operands (s.operands - 2 + 2) refl passed lt)

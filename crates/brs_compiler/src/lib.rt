@@ -13,10 +13,9 @@ use brs_code::Code;
 use brs_grammar::tree::FileTree;
 use chan_values::NoMemory;
 use code_lowering::lowered;
+pub use static_faults::{StaticFault, StaticKind, static_fault};
 use std::alloc::Global;
 use tree_code::file_drafts;
-
-pub use static_faults::{StaticFault, StaticKind, static_fault};
 
 /// The code of a source file's tree, without scopes. Its named functions stand in the order of their places. The walk reads each part of
 /// the tree once.

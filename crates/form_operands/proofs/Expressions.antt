@@ -1,12 +1,9 @@
 -- What the rules of expressions give has the operands that it takes, where what stands inside has.
-use Rattle.std.proofs.Common.{◌≡◌, inl, inr, List, [], ◌∷◌, ◌++◌, sym, subst}
+use Rattle.std.proofs.Common.{inl, inr, [], ◌∷◌, sym, subst}
 use Rattle.std.specs.Prelude.{All}
 use Rattle.std.proofs.lemmas.List.Elements.{All-nil, All-cons}
 use Rattle.grammar_rules.specs.Words.{place_of, word_of}
-use Rattle.grammar_rules.specs.Rules.{Either, Pure}
-use Rattle.brs_tokens.specs.Tok.{Tok}
-use Rattle.brs_grammar.specs.declared.tree.Expression.{Expression}
-use Rattle.brs_grammar.specs.declared.tree.Pair.{Pair}
+use Rattle.grammar_rules.specs.Rules.{Pure}
 use Rattle.brs_grammar.specs.declared.tree.Postfix.TheVariants as postfix
 use Rattle.brs_grammar.specs.Leaves as L
 use Rattle.brs_grammar.specs.Leaves.{name_of, product_sign, sum_sign, shift_sign, comparison_sign}

@@ -1,5 +1,5 @@
 -- What the grammar gives of a whole file has the operands that it takes.
-use Rattle.std.proofs.Common.{◌≡◌, ℕ, zero, suc, inl, inr, List, [], ◌∷◌, ◌++◌, Option, None, Some, map, sym, subst}
+use Rattle.std.proofs.Common.{ℕ, zero, suc, inl, inr, List, Option, None, Some, map, sym, subst}
 use Rattle.std.specs.Prelude.{All, IfSome}
 use Rattle.std.specs.Option.{option_to_list}
 use Rattle.std.proofs.lemmas.List.Elements.{All-nil, All-cons, All-append, All-map}
@@ -7,17 +7,15 @@ use Rattle.grammar_rules.specs.Words.{place_of}
 use Rattle.grammar_rules.specs.Rules.{Either}
 use Rattle.brs_tokens.specs.Tok.{Tok}
 use Rattle.brs_grammar.specs.declared.tree.NamedFunction.{NamedFunction}
-use Rattle.brs_grammar.specs.declared.tree.TypeWord.{TypeWord}
 use Rattle.brs_grammar.specs.Expressions as X
 use Rattle.brs_grammar.specs.Leaves as L
 use Rattle.brs_grammar.specs.Leaves.{name_of}
 use Rattle.brs_grammar.specs.Functions as G
-use Rattle.brs_grammar.specs.Statements as S
 use Rattle.brs_grammar.specs.Grammar.{inside, file_number, IsFile}
 use Rattle.code_relation.specs.Standing.{named_form}
 use Rattle.code_lowering.specs.Takes.{FunctionTakes}
-use Rattle.form_operands.proofs.Gives.{Gives, many_gives, optional_gives, Ends, ended_gives}
-use Rattle.form_operands.proofs.Parts.{ExpressionTakes, ParameterTakes, StatementTakes, RestTakes, NamedTakes, a_parameter_takes, rest_takes, function_takes, sub_takes}
+use Rattle.form_operands.proofs.Gives.{Gives, many_gives, optional_gives, ended_gives}
+use Rattle.form_operands.proofs.Parts.{ExpressionTakes, ParameterTakes, RestTakes, NamedTakes, a_parameter_takes, rest_takes, function_takes, sub_takes}
 use Rattle.form_operands.proofs.Expressions.{one, Within, expression_gives, all_arguments_give, all_items_give, all_pairs_give, negation_gives, minus_gives}
 use Rattle.form_operands.proofs.Statements.{block_gives}
 

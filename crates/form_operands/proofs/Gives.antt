@@ -1,8 +1,8 @@
 -- What holds of each value that a rule of a grammar gives.
-use Rattle.std.proofs.Common.{◌≡◌, inl, inr, List, [], ◌∷◌, ◌++◌, Option, None, Some, sym, subst}
+use Rattle.std.proofs.Common.{inl, inr, List, [], ◌∷◌, ◌++◌, Option, None, Some, sym, subst}
 use Rattle.std.specs.Prelude.{All, IfSome}
 use Rattle.std.proofs.lemmas.List.Elements.{All-nil, All-append}
-use Rattle.grammar_rules.specs.Rules.{Rule, Pure, Either, Turns, joined, Many, Trail, trailed, Trailing, Optional, Ending, Ended, ◌>>=◌}
+use Rattle.grammar_rules.specs.Rules.{Rule, Either, Turns, joined, Many, Trail, trailed, Trailing, Optional, Ending, Ended}
 use Rattle.brs_tokens.specs.Tok.{Tok}
 
 abbrev pub Gives : {A : Type 0} → (A → Type 0) → Rule A → Type 0

@@ -1,7 +1,6 @@
 -- What each part of a tree takes, from what its parts take.
-use Rattle.std.proofs.Common.{◌≡◌, ℕ, suc, Bool, true, false, List, [], ◌∷◌, Option, None, Some, map, refl, sym, ap, ◌∙◌, subst}
+use Rattle.std.proofs.Common.{◌≡◌, suc, true, false, List, [], ◌∷◌, Option, None, Some, map, refl, sym, ap, ◌∙◌, subst}
 use Rattle.std.specs.Prelude.{All, IfSome, length}
-use Rattle.std.proofs.lemmas.List.{length-map}
 use Rattle.std.proofs.lemmas.List.Elements.{All-map}
 use Rattle.brs_tokens.specs.declared.place.Place.{Place}
 use Rattle.brs_grammar.specs.declared.tree.Minus.{Minus}
@@ -18,27 +17,27 @@ use Rattle.brs_grammar.specs.declared.tree.Simple.{Simple}
 use Rattle.brs_grammar.specs.declared.tree.Simple.TheVariants as simple
 use Rattle.brs_grammar.specs.declared.tree.Statement.{Statement}
 use Rattle.brs_grammar.specs.declared.tree.Statement.TheVariants as statement
-use Rattle.brs_grammar.specs.declared.tree.AndPart.{AndPart, out-AndPart, roll-AndPart}
-use Rattle.brs_grammar.specs.declared.tree.BlockArm.{BlockArm, out-BlockArm, roll-BlockArm}
-use Rattle.brs_grammar.specs.declared.tree.Comparison.{Comparison, out-Comparison, roll-Comparison}
-use Rattle.brs_grammar.specs.declared.tree.ComparisonPart.{ComparisonPart, out-ComparisonPart, roll-ComparisonPart}
-use Rattle.brs_grammar.specs.declared.tree.Conjunction.{Conjunction, out-Conjunction, roll-Conjunction}
-use Rattle.brs_grammar.specs.declared.tree.Expression.{Expression, out-Expression, roll-Expression}
-use Rattle.brs_grammar.specs.declared.tree.LineArm.{LineArm, out-LineArm, roll-LineArm}
-use Rattle.brs_grammar.specs.declared.tree.OrPart.{OrPart, out-OrPart, roll-OrPart}
-use Rattle.brs_grammar.specs.declared.tree.Pair.{Pair, out-Pair, roll-Pair}
-use Rattle.brs_grammar.specs.declared.tree.Parameter.{Parameter, out-Parameter, roll-Parameter}
-use Rattle.brs_grammar.specs.declared.tree.Product.{Product, out-Product, roll-Product}
-use Rattle.brs_grammar.specs.declared.tree.ProductPart.{ProductPart, out-ProductPart, roll-ProductPart}
-use Rattle.brs_grammar.specs.declared.tree.Rest.{Rest, out-Rest, roll-Rest}
-use Rattle.brs_grammar.specs.declared.tree.Shift.{Shift, out-Shift, roll-Shift}
-use Rattle.brs_grammar.specs.declared.tree.ShiftPart.{ShiftPart, out-ShiftPart, roll-ShiftPart}
-use Rattle.brs_grammar.specs.declared.tree.Sum.{Sum, out-Sum, roll-Sum}
-use Rattle.brs_grammar.specs.declared.tree.SumPart.{SumPart, out-SumPart, roll-SumPart}
+use Rattle.brs_grammar.specs.declared.tree.AndPart.{AndPart, roll-AndPart}
+use Rattle.brs_grammar.specs.declared.tree.BlockArm.{BlockArm, roll-BlockArm}
+use Rattle.brs_grammar.specs.declared.tree.Comparison.{Comparison, roll-Comparison}
+use Rattle.brs_grammar.specs.declared.tree.ComparisonPart.{ComparisonPart, roll-ComparisonPart}
+use Rattle.brs_grammar.specs.declared.tree.Conjunction.{Conjunction, roll-Conjunction}
+use Rattle.brs_grammar.specs.declared.tree.Expression.{Expression, roll-Expression}
+use Rattle.brs_grammar.specs.declared.tree.LineArm.{LineArm, roll-LineArm}
+use Rattle.brs_grammar.specs.declared.tree.OrPart.{OrPart, roll-OrPart}
+use Rattle.brs_grammar.specs.declared.tree.Pair.{Pair, roll-Pair}
+use Rattle.brs_grammar.specs.declared.tree.Parameter.{Parameter, roll-Parameter}
+use Rattle.brs_grammar.specs.declared.tree.Product.{Product, roll-Product}
+use Rattle.brs_grammar.specs.declared.tree.ProductPart.{ProductPart, roll-ProductPart}
+use Rattle.brs_grammar.specs.declared.tree.Rest.{Rest, roll-Rest}
+use Rattle.brs_grammar.specs.declared.tree.Shift.{Shift, roll-Shift}
+use Rattle.brs_grammar.specs.declared.tree.ShiftPart.{ShiftPart, roll-ShiftPart}
+use Rattle.brs_grammar.specs.declared.tree.Sum.{Sum, roll-Sum}
+use Rattle.brs_grammar.specs.declared.tree.SumPart.{SumPart, roll-SumPart}
 use Rattle.brs_grammar.specs.declared.tree.Target.{Target, out-Target, roll-Target}
-use Rattle.brs_grammar.specs.declared.tree.Value.{Value, out-Value, roll-Value}
+use Rattle.brs_grammar.specs.declared.tree.Value.{Value, roll-Value}
 use Rattle.brs_grammar.specs.declared.tree.Minus.TheOpen as open_
-use Rattle.brs_grammar.specs.declared.tree.Minus.TheOpen.{Postfix-F}
+use Rattle.brs_grammar.specs.declared.tree.Minus.TheOpen.{Postfix-F, AndPart-F, BlockArm-F, Comparison-F, ComparisonPart-F, Conjunction-F, Expression-F, LineArm-F, OrPart-F, Pair-F, Parameter-F, Product-F, ProductPart-F, Rest-F, Shift-F, ShiftPart-F, Sum-F, SumPart-F, Target-F, Value-F}
 use Rattle.brs_grammar.specs.declared.tree.Minus.TheViews.{out-roll-AndPart, out-roll-BlockArm, out-roll-Comparison, out-roll-ComparisonPart, out-roll-Conjunction, out-roll-Expression, out-roll-LineArm, out-roll-OrPart, out-roll-Pair, out-roll-Parameter, out-roll-Product, out-roll-ProductPart, out-roll-Rest, out-roll-Shift, out-roll-ShiftPart, out-roll-Sum, out-roll-SumPart, out-roll-Target, out-roll-Value, out-roll-Postfix, roll-out-Postfix}
 use Rattle.brs_grammar.specs.declared.tree.ComparisonSign.{ComparisonSign}
 use Rattle.brs_grammar.specs.declared.tree.CountSign.{CountSign}
@@ -56,11 +55,11 @@ use Rattle.brs_tokens.specs.declared.number.NumberValue.{NumberValue}
 use Rattle.brs_tokens.specs.declared.number.NumberValue.TheVariants as number
 use Rattle.brs_grammar.specs.Form as p
 use Rattle.brs_grammar.specs.Form.{Text, Node, none, more}
-use Rattle.brs_grammar.specs.Parts.{Entry, chained, tailed, forms, one, counted, params, todos}
+use Rattle.brs_grammar.specs.Parts.{Aim, Entry, chained, tailed, forms, one, counted, params, todos}
 use lib.Chars.{codes}
 use Rattle.chan_values.specs.Folded.{folded}
 use Rattle.brs_grammar.specs.Statements.{is_call, last_is_call, ends_in_call}
-use Rattle.brs_grammar.specs.View.{key_of, minus_of, negation_of, postfix_of, primary_of, print_item_of, simple_of, statement_of, and_part_of, block_arm_of, comparison_of, comparison_part_of, conjunction_of, expression_of, line_arm_of, or_part_of, pair_of, parameter_of, product_of, product_part_of, rest_of, shift_of, shift_part_of, sum_of, sum_part_of, target_of, value_of}
+use Rattle.brs_grammar.specs.View.{minus_of, negation_of, postfix_of, primary_of, print_item_of, simple_of, statement_of, and_part_of, block_arm_of, comparison_of, comparison_part_of, conjunction_of, expression_of, line_arm_of, or_part_of, pair_of, parameter_of, product_of, product_part_of, rest_of, shift_of, shift_part_of, sum_of, sum_part_of, target_of, value_of}
 use Rattle.brs_grammar.proofs.PartViews.{formal_of}
 use Rattle.brs_grammar.proofs.Views as v
 use Rattle.brs_forms.specs.Words.{number_of}
@@ -71,6 +70,10 @@ use Rattle.code_lowering.specs.Takes.{FormTakes, FormsTake, ParamsTake, TodoTake
 use Rattle.form_operands.proofs.Takes.{OperandTakes, TailTakes, PrintedTakes, StepTakes, ChoiceTakes, FormalTakes, forms_take, shown_take, shown_count, todos_take, params_take, if_takes, chained_takes, variable_takes, tailed_takes, called_takes, IsAim, EndsInAim, assign_takes, update_takes}
 
 -- ---- what each part takes
+
+-- one layer of a tree, with its parts
+abbrev Opened : (Type 0 → Type 0 → Type 0 → Type 0 → Type 0 → Type 0 → Type 0 → Type 0 → Type 0 → Type 0 → Type 0 → Type 0 → Type 0 → Type 0 → Type 0 → Type 0 → Type 0 → Type 0 → Type 0 → Type 0 → Type 0 → Type 0 → Type 0 → Type 0 → Type 0 → Type 0 → Type 0) → Type 0
+Opened F = F Minus Negation Postfix Primary PrintItem Simple Statement AndPart BlockArm Comparison ComparisonPart Conjunction Expression LineArm OrPart Pair Parameter Product ProductPart Rest Shift ShiftPart Sum SumPart Target Value
 
 abbrev pub ExpressionTakes : Expression → Type 0
 ExpressionTakes x = FormTakes (expression_of x)
@@ -157,61 +160,61 @@ NamedTakes x = FunctionTakes (named_form x)
 
 pub or_part_takes : (at : Place) (x : Conjunction) → ConjunctionTakes x → OrPartTakes (roll-OrPart (record { place = at; operand = x }))
 or_part_takes at x t =
-    subst OperandTakes (sym (v.or-part-out (roll-OrPart (record { place = at; operand = x })))) (λ n. refl, tt, subst (λ y. ConjunctionTakes y.operand) (sym (out-roll-OrPart (record { place = at; operand = x }))) t)
+    subst OperandTakes (sym (v.or-part-out (roll-OrPart (record { place = at; operand = x })))) (λ n. refl, tt, subst (λ (y : Opened OrPart-F). ConjunctionTakes y.operand) (sym (out-roll-OrPart (record { place = at; operand = x }))) t)
 
 pub and_part_takes : (at : Place) (x : Negation) → NegationTakes x → AndPartTakes (roll-AndPart (record { place = at; operand = x }))
 and_part_takes at x t =
-    subst OperandTakes (sym (v.and-part-out (roll-AndPart (record { place = at; operand = x })))) (λ n. refl, tt, subst (λ y. NegationTakes y.operand) (sym (out-roll-AndPart (record { place = at; operand = x }))) t)
+    subst OperandTakes (sym (v.and-part-out (roll-AndPart (record { place = at; operand = x })))) (λ n. refl, tt, subst (λ (y : Opened AndPart-F). NegationTakes y.operand) (sym (out-roll-AndPart (record { place = at; operand = x }))) t)
 
 pub comparison_part_takes : (at : Place) (s : ComparisonSign) (x : Shift) → ShiftTakes x → ComparisonPartTakes (roll-ComparisonPart (record { place = at; sign = s; operand = x }))
 comparison_part_takes at s x t =
-    subst OperandTakes (sym (v.comparison-part-out (roll-ComparisonPart (record { place = at; sign = s; operand = x })))) (λ n. refl, tt, subst (λ y. ShiftTakes y.operand) (sym (out-roll-ComparisonPart (record { place = at; sign = s; operand = x }))) t)
+    subst OperandTakes (sym (v.comparison-part-out (roll-ComparisonPart (record { place = at; sign = s; operand = x })))) (λ n. refl, tt, subst (λ (y : Opened ComparisonPart-F). ShiftTakes y.operand) (sym (out-roll-ComparisonPart (record { place = at; sign = s; operand = x }))) t)
 
 pub shift_part_takes : (at : Place) (s : ShiftSign) (x : Sum) → SumTakes x → ShiftPartTakes (roll-ShiftPart (record { place = at; sign = s; operand = x }))
 shift_part_takes at s x t =
-    subst OperandTakes (sym (v.shift-part-out (roll-ShiftPart (record { place = at; sign = s; operand = x })))) (λ n. refl, tt, subst (λ y. SumTakes y.operand) (sym (out-roll-ShiftPart (record { place = at; sign = s; operand = x }))) t)
+    subst OperandTakes (sym (v.shift-part-out (roll-ShiftPart (record { place = at; sign = s; operand = x })))) (λ n. refl, tt, subst (λ (y : Opened ShiftPart-F). SumTakes y.operand) (sym (out-roll-ShiftPart (record { place = at; sign = s; operand = x }))) t)
 
 pub sum_part_takes : (at : Place) (s : SumSign) (x : Product) → ProductTakes x → SumPartTakes (roll-SumPart (record { place = at; sign = s; operand = x }))
 sum_part_takes at s x t =
-    subst OperandTakes (sym (v.sum-part-out (roll-SumPart (record { place = at; sign = s; operand = x })))) (λ n. refl, tt, subst (λ y. ProductTakes y.operand) (sym (out-roll-SumPart (record { place = at; sign = s; operand = x }))) t)
+    subst OperandTakes (sym (v.sum-part-out (roll-SumPart (record { place = at; sign = s; operand = x })))) (λ n. refl, tt, subst (λ (y : Opened SumPart-F). ProductTakes y.operand) (sym (out-roll-SumPart (record { place = at; sign = s; operand = x }))) t)
 
 pub product_part_takes : (at : Place) (s : ProductSign) (x : Minus) → MinusTakes x → ProductPartTakes (roll-ProductPart (record { place = at; sign = s; operand = x }))
 product_part_takes at s x t =
-    subst OperandTakes (sym (v.product-part-out (roll-ProductPart (record { place = at; sign = s; operand = x })))) (λ n. refl, tt, subst (λ y. MinusTakes y.operand) (sym (out-roll-ProductPart (record { place = at; sign = s; operand = x }))) t)
+    subst OperandTakes (sym (v.product-part-out (roll-ProductPart (record { place = at; sign = s; operand = x })))) (λ n. refl, tt, subst (λ (y : Opened ProductPart-F). MinusTakes y.operand) (sym (out-roll-ProductPart (record { place = at; sign = s; operand = x }))) t)
 
 pub expression_takes : (x : Conjunction) (ys : List OrPart) → ConjunctionTakes x → All OrPartTakes ys → ExpressionTakes (roll-Expression (record { first = x; more = ys }))
 expression_takes x ys t a =
-    subst FormTakes (sym (v.expression-out (roll-Expression (record { first = x; more = ys })) ∙ ap (λ y. chained (conjunction_of y.first) (map or_part_of y.more)) (out-roll-Expression (record { first = x; more = ys }))))
+    subst FormTakes (sym (v.expression-out (roll-Expression (record { first = x; more = ys })) ∙ ap (λ (y : Opened Expression-F). chained (conjunction_of y.first) (map or_part_of y.more)) (out-roll-Expression (record { first = x; more = ys }))))
     (chained_takes (conjunction_of x) (map or_part_of ys) t (All-map OperandTakes or_part_of ys a))
 
 pub conjunction_takes : (x : Negation) (ys : List AndPart) → NegationTakes x → All AndPartTakes ys → ConjunctionTakes (roll-Conjunction (record { first = x; more = ys }))
 conjunction_takes x ys t a =
-    subst FormTakes (sym (v.conjunction-out (roll-Conjunction (record { first = x; more = ys })) ∙ ap (λ y. chained (negation_of y.first) (map and_part_of y.more)) (out-roll-Conjunction (record { first = x; more = ys }))))
+    subst FormTakes (sym (v.conjunction-out (roll-Conjunction (record { first = x; more = ys })) ∙ ap (λ (y : Opened Conjunction-F). chained (negation_of y.first) (map and_part_of y.more)) (out-roll-Conjunction (record { first = x; more = ys }))))
     (chained_takes (negation_of x) (map and_part_of ys) t (All-map OperandTakes and_part_of ys a))
 
 pub comparison_takes : (x : Shift) (ys : List ComparisonPart) → ShiftTakes x → All ComparisonPartTakes ys → ComparisonTakes (roll-Comparison (record { first = x; more = ys }))
 comparison_takes x ys t a =
-    subst FormTakes (sym (v.comparison-out (roll-Comparison (record { first = x; more = ys })) ∙ ap (λ y. chained (shift_of y.first) (map comparison_part_of y.more)) (out-roll-Comparison (record { first = x; more = ys }))))
+    subst FormTakes (sym (v.comparison-out (roll-Comparison (record { first = x; more = ys })) ∙ ap (λ (y : Opened Comparison-F). chained (shift_of y.first) (map comparison_part_of y.more)) (out-roll-Comparison (record { first = x; more = ys }))))
     (chained_takes (shift_of x) (map comparison_part_of ys) t (All-map OperandTakes comparison_part_of ys a))
 
 pub shift_takes : (x : Sum) (ys : List ShiftPart) → SumTakes x → All ShiftPartTakes ys → ShiftTakes (roll-Shift (record { first = x; more = ys }))
 shift_takes x ys t a =
-    subst FormTakes (sym (v.shift-out (roll-Shift (record { first = x; more = ys })) ∙ ap (λ y. chained (sum_of y.first) (map shift_part_of y.more)) (out-roll-Shift (record { first = x; more = ys }))))
+    subst FormTakes (sym (v.shift-out (roll-Shift (record { first = x; more = ys })) ∙ ap (λ (y : Opened Shift-F). chained (sum_of y.first) (map shift_part_of y.more)) (out-roll-Shift (record { first = x; more = ys }))))
     (chained_takes (sum_of x) (map shift_part_of ys) t (All-map OperandTakes shift_part_of ys a))
 
 pub sum_takes : (x : Product) (ys : List SumPart) → ProductTakes x → All SumPartTakes ys → SumTakes (roll-Sum (record { first = x; more = ys }))
 sum_takes x ys t a =
-    subst FormTakes (sym (v.sum-out (roll-Sum (record { first = x; more = ys })) ∙ ap (λ y. chained (product_of y.first) (map sum_part_of y.more)) (out-roll-Sum (record { first = x; more = ys }))))
+    subst FormTakes (sym (v.sum-out (roll-Sum (record { first = x; more = ys })) ∙ ap (λ (y : Opened Sum-F). chained (product_of y.first) (map sum_part_of y.more)) (out-roll-Sum (record { first = x; more = ys }))))
     (chained_takes (product_of x) (map sum_part_of ys) t (All-map OperandTakes sum_part_of ys a))
 
 pub product_takes : (x : Minus) (ys : List ProductPart) → MinusTakes x → All ProductPartTakes ys → ProductTakes (roll-Product (record { first = x; more = ys }))
 product_takes x ys t a =
-    subst FormTakes (sym (v.product-out (roll-Product (record { first = x; more = ys })) ∙ ap (λ y. chained (minus_of y.first) (map product_part_of y.more)) (out-roll-Product (record { first = x; more = ys }))))
+    subst FormTakes (sym (v.product-out (roll-Product (record { first = x; more = ys })) ∙ ap (λ (y : Opened Product-F). chained (minus_of y.first) (map product_part_of y.more)) (out-roll-Product (record { first = x; more = ys }))))
     (chained_takes (minus_of x) (map product_part_of ys) t (All-map OperandTakes product_part_of ys a))
 
 pub value_takes : (x : Primary) (ys : List Postfix) → PrimaryTakes x → All PostfixTakes ys → ValueTakes (roll-Value (record { first = x; more = ys }))
 value_takes x ys t a =
-    subst FormTakes (sym (v.value-out (roll-Value (record { first = x; more = ys })) ∙ ap (λ y. tailed (primary_of y.first) (map postfix_of y.more)) (out-roll-Value (record { first = x; more = ys }))))
+    subst FormTakes (sym (v.value-out (roll-Value (record { first = x; more = ys })) ∙ ap (λ (y : Opened Value-F). tailed (primary_of y.first) (map postfix_of y.more)) (out-roll-Value (record { first = x; more = ys }))))
     (tailed_takes (primary_of x) (map postfix_of ys) t (All-map TailTakes postfix_of ys a))
 
 pub negative_takes : (at : Place) (x : Minus) → MinusTakes x → MinusTakes (minus.Negative at x)
@@ -271,20 +274,20 @@ pub array_takes : (at : Place) (es : List Expression) → All ExpressionTakes es
 array_takes at es a = subst FormTakes (sym (v.primary-Array at es)) (λ n. refl, tt, expressions_take es a)
 
 -- as many values as keys
-entries_count : (xs : List Entry) → length (map (λ x. x.key) xs) ≡ count (forms (map (λ x. x.value) xs))
+entries_count : (xs : List Entry) → length (map (λ (x : Entry). x.key) xs) ≡ count (forms (map (λ (x : Entry). x.value) xs))
 entries_count [] = refl
 entries_count (x ∷ xs) = ap suc (entries_count xs)
 
-entries_take : (xs : List Entry) → All (λ x. FormTakes x.value) xs → FormsTake (forms (map (λ x. x.value) xs))
-entries_take xs a = forms_take (map (λ x. x.value) xs) (All-map FormTakes (λ x. x.value) xs a)
+entries_take : (xs : List Entry) → All (λ (x : Entry). FormTakes x.value) xs → FormsTake (forms (map (λ (x : Entry). x.value) xs))
+entries_take xs a = forms_take (map (λ (x : Entry). x.value) xs) (All-map FormTakes (λ (x : Entry). x.value) xs a)
 
 pub pairs_take : (at : Place) (xs : List Pair) → All PairTakes xs → PrimaryTakes (primary.Pairs at xs)
 pairs_take at xs a =
-    subst FormTakes (sym (v.primary-Pairs at xs)) (λ n. refl, entries_count (map pair_of xs), entries_take (map pair_of xs) (All-map (λ x. FormTakes x.value) pair_of xs a))
+    subst FormTakes (sym (v.primary-Pairs at xs)) (λ n. refl, entries_count (map pair_of xs), entries_take (map pair_of xs) (All-map (λ (x : Entry). FormTakes x.value) pair_of xs a))
 
 pub pair_takes : (k : Key) (e : Expression) → ExpressionTakes e → PairTakes (roll-Pair (record { key = k; value = e }))
 pair_takes k e t =
-    subst (λ y. FormTakes y.value) (sym (v.pair-out (roll-Pair (record { key = k; value = e })))) (subst (λ y. ExpressionTakes y.value) (sym (out-roll-Pair (record { key = k; value = e }))) t)
+    subst (λ (y : Entry). FormTakes y.value) (sym (v.pair-out (roll-Pair (record { key = k; value = e })))) (subst (λ (y : Opened Pair-F). ExpressionTakes y.value) (sym (out-roll-Pair (record { key = k; value = e }))) t)
 
 pub anonymous_function_takes : (at : Place) (r : Rest) → RestTakes r → PrimaryTakes (primary.AnonymousFunction at r)
 anonymous_function_takes at r t = subst FormTakes (sym (v.primary-AnonymousFunction at r)) (λ n. refl, t, tt)
@@ -294,8 +297,7 @@ anonymous_sub_takes at r t = subst FormTakes (sym (v.primary-AnonymousSub at r))
 
 -- ---- targets
 
-open_is_aim : (y : Postfix-F Minus Negation Postfix Primary PrintItem Simple Statement AndPart BlockArm Comparison ComparisonPart Conjunction Expression LineArm OrPart Pair Parameter Product ProductPart Rest Shift ShiftPart Sum SumPart Target Value)
-    → is_call (roll-Postfix y) ≡ false → IsAim (postfix_of (roll-Postfix y))
+open_is_aim : (y : Opened Postfix-F) → is_call (roll-Postfix y) ≡ false → IsAim (postfix_of (roll-Postfix y))
 open_is_aim (open_.Member at x) h = subst IsAim (sym (ap postfix_of (postfix.rolls-Member at x) ∙ v.postfix-Member at x)) tt
 open_is_aim (open_.Index at e) h = subst IsAim (sym (ap postfix_of (postfix.rolls-Index at e) ∙ v.postfix-Index at e)) tt
 open_is_aim (open_.Arguments at es) h =
@@ -314,13 +316,13 @@ ends_in_aim [] h = tt
 ends_in_aim (x ∷ xs) h = last_is_aim x xs h
 
 aims : (x : Target) → ends_in_call x ≡ false → EndsInAim (target_of x).tails
-aims x h = subst (λ a. EndsInAim a.tails) (sym (v.target-out x)) (ends_in_aim (out-Target x).more h)
+aims x h = subst (λ (a : Aim). EndsInAim a.tails) (sym (v.target-out x)) (ends_in_aim (out-Target x).more h)
 
 tails_take : (x : Target) → TargetTakes x → All TailTakes (target_of x).tails
-tails_take x a = subst (λ y. All TailTakes y.tails) (sym (v.target-out x)) (All-map TailTakes postfix_of (out-Target x).more a)
+tails_take x a = subst (λ (a : Aim). All TailTakes a.tails) (sym (v.target-out x)) (All-map TailTakes postfix_of (out-Target x).more a)
 
 pub target_takes : (n : Name) (xs : List Postfix) → All PostfixTakes xs → TargetTakes (roll-Target (record { name = n; more = xs }))
-target_takes n xs a = subst (λ y. All PostfixTakes y.more) (sym (out-roll-Target (record { name = n; more = xs }))) a
+target_takes n xs a = subst (λ (y : Opened Target-F). All PostfixTakes y.more) (sym (out-roll-Target (record { name = n; more = xs }))) a
 
 -- ---- statements of one line
 
@@ -368,12 +370,12 @@ block_takes xs a = todos_take (map statement_of xs) (All-map StepTakes statement
 pub line_arm_takes : (at : Place) (e : Expression) (xs : List Simple) → ExpressionTakes e → All SimpleTakes xs → LineArmTakes (roll-LineArm (record { place = at; condition = e; run = xs }))
 line_arm_takes at e xs t a =
     subst ChoiceTakes (sym (v.line-arm-out (roll-LineArm (record { place = at; condition = e; run = xs }))))
-    (subst (λ y. ExpressionTakes y.condition × TodoTakes (todos (map simple_of y.run))) (sym (out-roll-LineArm (record { place = at; condition = e; run = xs }))) (t, run_takes xs a))
+    (subst (λ (y : Opened LineArm-F). ExpressionTakes y.condition × TodoTakes (todos (map simple_of y.run))) (sym (out-roll-LineArm (record { place = at; condition = e; run = xs }))) (t, run_takes xs a))
 
 pub block_arm_takes : (at : Place) (e : Expression) (xs : List Statement) → ExpressionTakes e → All StatementTakes xs → BlockArmTakes (roll-BlockArm (record { place = at; condition = e; block = xs }))
 block_arm_takes at e xs t a =
     subst ChoiceTakes (sym (v.block-arm-out (roll-BlockArm (record { place = at; condition = e; block = xs }))))
-    (subst (λ y. ExpressionTakes y.condition × TodoTakes (todos (map statement_of y.block))) (sym (out-roll-BlockArm (record { place = at; condition = e; block = xs }))) (t, block_takes xs a))
+    (subst (λ (y : Opened BlockArm-F). ExpressionTakes y.condition × TodoTakes (todos (map statement_of y.block))) (sym (out-roll-BlockArm (record { place = at; condition = e; block = xs }))) (t, block_takes xs a))
 
 pub line_if_takes : (c : LineArm) (cs : List LineArm) (other : Option (List Simple)) → LineArmTakes c → All LineArmTakes cs → IfSome other (All SimpleTakes) → StatementTakes (statement.LineIf c cs other)
 line_if_takes c cs None t a b = subst StepTakes (sym (v.statement-LineIf-None c cs)) (if_takes (line_arm_of c) (map line_arm_of cs) p.finish t (All-map ChoiceTakes line_arm_of cs a) tt)
@@ -406,12 +408,12 @@ formal_takes x (Some e) k t = t
 
 pub a_parameter_takes : (x : Name) (d : Option Expression) (k : Option TypeWord) → IfSome d ExpressionTakes → ParameterTakes (roll-Parameter (record { name = x; default = d; kind = k }))
 a_parameter_takes x d k t =
-    subst FormalTakes (sym (v.parameter-out (roll-Parameter (record { name = x; default = d; kind = k })) ∙ ap (λ y. formal_of y.name y.default y.kind) (out-roll-Parameter (record { name = x; default = d; kind = k })))) (formal_takes x d k t)
+    subst FormalTakes (sym (v.parameter-out (roll-Parameter (record { name = x; default = d; kind = k })) ∙ ap (λ (y : Opened Parameter-F). formal_of y.name y.default y.kind) (out-roll-Parameter (record { name = x; default = d; kind = k })))) (formal_takes x d k t)
 
 pub rest_takes : (xs : List Parameter) (k : Option TypeWord) (b : List Statement) → All ParameterTakes xs → All StatementTakes b → RestTakes (roll-Rest (record { parameters = xs; value = k; body = b }))
 rest_takes xs k b a t =
     subst CalleeTakes (sym (v.rest-out (roll-Rest (record { parameters = xs; value = k; body = b }))))
-    (subst (λ y. ParamsTake (params (map parameter_of y.parameters)) × TodoTakes (todos (map statement_of y.body))) (sym (out-roll-Rest (record { parameters = xs; value = k; body = b })))
+    (subst (λ (y : Opened Rest-F). ParamsTake (params (map parameter_of y.parameters)) × TodoTakes (todos (map statement_of y.body))) (sym (out-roll-Rest (record { parameters = xs; value = k; body = b })))
     (params_take (map parameter_of xs) (All-map FormalTakes parameter_of xs a), block_takes b t))
 
 pub function_takes : (at : Place) (x : Name) (r : Rest) → RestTakes r → NamedTakes (named.Function at x r)

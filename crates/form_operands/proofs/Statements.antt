@@ -1,16 +1,14 @@
 -- What the rules of statements give has the operands that it takes, where what stands inside has.
-use Rattle.std.proofs.Common.{◌≡◌, Bool, true, false, inl, inr, List, [], ◌∷◌, ◌++◌, refl, sym, subst}
+use Rattle.std.proofs.Common.{◌≡◌, Bool, true, false, inl, inr, [], refl, sym, subst}
 use Rattle.std.specs.Prelude.{All}
 use Rattle.std.proofs.lemmas.List.Elements.{All-nil, All-cons, All-append}
 use Rattle.grammar_rules.specs.Words.{place_of, word_of}
-use Rattle.grammar_rules.specs.Rules.{Rule, Pure, Either, Ended}
+use Rattle.grammar_rules.specs.Rules.{Rule, Pure, Either}
 use Rattle.brs_tokens.specs.declared.place.Place.{Place}
-use Rattle.brs_tokens.specs.Tok.{Tok}
 use Rattle.brs_grammar.specs.declared.tree.LoopKind.TheVariants as loop
 use Rattle.brs_grammar.specs.declared.tree.PrintItem.TheVariants as printed
-use Rattle.brs_grammar.specs.declared.tree.Statement.TheVariants as statement
-use Rattle.brs_grammar.specs.declared.tree.LineArm.{LineArm, roll-LineArm}
-use Rattle.brs_grammar.specs.declared.tree.BlockArm.{BlockArm, roll-BlockArm}
+use Rattle.brs_grammar.specs.declared.tree.LineArm.{roll-LineArm}
+use Rattle.brs_grammar.specs.declared.tree.BlockArm.{roll-BlockArm}
 use Rattle.brs_grammar.specs.declared.tree.Target.{Target}
 use Rattle.brs_grammar.specs.Expressions as X
 use Rattle.brs_grammar.specs.Leaves.{name_of}
@@ -18,7 +16,7 @@ use Rattle.brs_grammar.specs.StatementWords as W
 use Rattle.brs_grammar.specs.StatementWords.{update_sign, count_sign}
 use Rattle.brs_grammar.specs.Statements as G
 use Rattle.brs_grammar.specs.Statements.{ends_in_call}
-use Rattle.form_operands.proofs.Gives.{Gives, either_gives, many_gives, trailing_gives, optional_gives, Ends, ended_gives}
+use Rattle.form_operands.proofs.Gives.{Gives, either_gives, many_gives, trailing_gives, optional_gives, ended_gives}
 use Rattle.form_operands.proofs.Parts.{ExpressionTakes, PostfixTakes, TargetTakes, PrintItemTakes, SimpleTakes, StatementTakes, LineArmTakes, BlockArmTakes, target_takes, assign_takes_operands, update_takes_operands, count_takes, call_takes, semicolon_takes, comma_takes, shown_value_takes, print_takes, return_takes, exit_takes, line_arm_takes, block_arm_takes, line_if_takes, block_if_takes, for_takes, for_each_takes, while_takes, simple_statement_takes}
 use Rattle.form_operands.proofs.Expressions.{one, Within, postfix_gives, expression_gives}
 

@@ -1,13 +1,15 @@
 -- What the parts of a tree take, and the forms that are put together from them.
-use Rattle.std.proofs.Common.{◌≡◌, ℕ, zero, suc, ◌+◌, Bool, true, false, if◌then◌else◌, List, [], ◌∷◌, Option, None, Some, map, refl, sym, ap, ◌∙◌, arith, subst}
-use Rattle.std.specs.Prelude.{All, IfSome, count_by}
+use Rattle.std.proofs.Common.{◌≡◌, ℕ, ◌+◌, Bool, true, false, if◌then◌else◌, List, [], ◌∷◌, Option, None, Some, map, refl, sym, ◌∙◌, arith}
+use Rattle.std.specs.Prelude.{cond, All, IfSome, count_by}
 use Rattle.std.proofs.lemmas.List.Elements.{All-nil, All-cons, All-head, All-tail}
+use Rattle.std.proofs.lemmas.List.Sums.{sum_by-cons}
 use Rattle.brs_tokens.specs.declared.place.Place.{Place}
 use Rattle.brs_grammar.specs.declared.tree.UpdateSign.{UpdateSign}
 use Rattle.brs_grammar.specs.Form as p
 use Rattle.brs_grammar.specs.Form.{Text, Form, Node, Forms, none, more, Params, Todo, finish, first}
 use Rattle.brs_grammar.specs.Parts.{Step, Tail, member, index, arguments, Printed, semicolon, comma, value, Operand, Choice, Formal, Aim, Aimed, forms, join, maybe, todos, mark, shown, parameter, params, chained, tailed, variable, called, but_last, last_of, aimed_last, aimed, assign_step, update_step, choices, if_step}
 use Rattle.brs_forms.specs.Words.{is_m}
+use Rattle.brs_code.specs.declared.function.Mark.TheVariants as shown_mark
 use Rattle.brs_code.specs.declared.instr.Instr.TheVariants as i
 use Rattle.brs_code.specs.Instruction.{pops}
 use Rattle.brs_code.specs.Rule.{is_value}
@@ -56,7 +58,7 @@ pub shown_count : (xs : List Printed) → count_by is_value (map mark_of (map ma
 shown_count [] = refl
 shown_count (semicolon ∷ xs) = shown_count xs
 shown_count (comma ∷ xs) = shown_count xs
-shown_count (value e ∷ xs) = ap suc (shown_count xs)
+shown_count (value e ∷ xs) = sum_by-cons (λ m. cond (is_value m) 1 0) shown_mark.Value (map mark_of (map mark xs)) ∙ omega (arith, shown_count xs)
 
 pub maybe_takes : (e : Option Form) → IfSome e FormTakes → FormsTake (maybe e)
 maybe_takes None t = tt
