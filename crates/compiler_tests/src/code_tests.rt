@@ -26,6 +26,7 @@ fn each_form_has_its_instructions(rt: HostRuntime) -> Result<(), Fail> {
     Ok(())
 }
 
+/// The last step of each is the end of the body.
 #[test]
 fn each_form_takes_its_steps(rt: HostRuntime) -> Result<(), Fail> {
     let alloc = rt.alloc();
@@ -108,18 +109,33 @@ fn compiled_code_has_places_and_operands(rt: HostRuntime) -> Result<(), Fail> {
 fn compiled_code_keeps_the_rule(rt: HostRuntime) -> Result<(), Fail> {
     let alloc = rt.alloc();
     for body in [
+        "",
         "x = 7\nprint \"x=\"; x; \" \"; x \\ 2; x mod 4",
-        "x++",
-        "x = a and b or not c",
-        "a.b[1] += 2",
-        "a.b.c(1)",
+        "print\nprint ; , ;\nprint x, y;",
+        "x++\na.b[1] += 2\na[x]--\nm.x \\= 3",
+        "x = a and b or not c and -a << 2 >> b <> 1 + 2 * 3",
+        "x = []\ny = {}\nz = [[1], {a: 2, \"B c\": []}]",
+        "a.b.c(1)\na[1].b(2)[3].c = (a.b)(c)(a, b)",
         "for i = 1 to 3 step 2\nexit for\nnext",
         "for each x in [1, 2]\nwhile a\nexit for\nexit while\nend while\nnext",
+        "while a\nfor i = 1 to 2\nfor each x in b\nexit while\nnext\nexit for\nnext\nend while",
         "if a then\nelse if b then\nreturn\nelse\nend if",
+        "if a then x = 1 else if b then x = 2 else return",
         "x = {a: 1, b: [function(a, b = 1) as integer\nreturn a + b\nend function]}",
+        "x = function(f = sub(a = b or c)\nend sub)\nreturn function()\nend function\nend function",
     ] {
         let source = format!(in alloc; "sub f(a, b = 1, c = b as integer)\n{body}\nend sub\n")?;
-        assert!(rt; is_valid(alloc, &source));
+        assert!(rt; is_valid(alloc, &source), "{body}");
+    }
+    Ok(())
+}
+
+#[test]
+fn a_static_fault_comes_before_code(rt: HostRuntime) -> Result<(), Fail> {
+    let alloc = rt.alloc();
+    for (body, kept) in [("exit while", false), ("m = 1", false), ("m.x = 1", true)] {
+        let source = format!(in alloc; "sub f()\n{body}\nend sub\n")?;
+        assert!(rt; is_valid(alloc, &source) == kept, "{body}");
     }
     Ok(())
 }

@@ -1,7 +1,7 @@
 //! The code of sources as text, for the tests.
 use crate::steps::steps;
 use brs_code::{Code, Function, ScopeList, verify};
-use brs_compiler::compile;
+use brs_compiler::{compile, static_fault};
 use brs_parser::{ParseAnswer, ParsedFile};
 use brs_tokens::lex;
 use code_drafts::Draft;
@@ -72,9 +72,13 @@ fn placed_text(alloc: Global, function: &Function) -> Result<String, AllocError>
     Ok(text)
 }
 
+/// The code of a source file in which there is no fault.
 fn compiled(alloc: Global, source: &str) -> Option<Code> {
     match parsed(alloc, source) {
-        Some(Ok(file)) => compile(alloc, file.tree()).ok(),
+        Some(Ok(file)) => match static_fault(file.tree()) {
+            None => compile(alloc, file.tree()).ok(),
+            Some(_) => None,
+        },
         _ => None,
     }
 }
