@@ -1,3 +1,3 @@
 pub mod Arguments
 pub mod Rows
-pub mod Operating
+pub mod Applying

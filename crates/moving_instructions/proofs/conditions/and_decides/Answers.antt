@@ -1,4 +1,4 @@
-use Rattle.moving_instructions.proofs.Conditions.{and_row}
+use Rattle.moving_instructions.proofs.Choosing.{and_row}
 use Rattle.moving_instructions.proofs.conditions.and_decides.Goals as goal
 
 pub returns : goal.returns

@@ -2,7 +2,7 @@ use Rattle.std.proofs.Common.{◌≡◌, length, refl, sym, ap, ◌∙◌, subst
 use Rattle.frame_stack.specs.Frame.{without_operands}
 use Rattle.frame_actions.proofs.Holding.{still_there}
 use Rattle.moving_instructions.specs.Choices.{Branches}
-use Rattle.moving_instructions.proofs.Conditions.{branch_row, no_truth}
+use Rattle.moving_instructions.proofs.Choosing.{branch_row, no_truth}
 use Rattle.moving_instructions.proofs.conditions.branch.Goals as goal
 
 pub go_to-requires : goal.go_to-requires

@@ -1,4 +1,4 @@
-use Rattle.moving_instructions.proofs.Conditions.{or_row}
+use Rattle.moving_instructions.proofs.Choosing.{or_row}
 use Rattle.moving_instructions.proofs.conditions.or_decides.Goals as goal
 
 pub returns : goal.returns

@@ -1,4 +1,4 @@
-use Rattle.moving_instructions.proofs.Places.{again_row}
+use Rattle.moving_instructions.proofs.Leading.{again_row}
 use Rattle.moving_instructions.proofs.places.again.Goals as goal
 
 pub returns : goal.returns

@@ -1,4 +1,4 @@
-use Rattle.moving_instructions.proofs.Places.{drop_row}
+use Rattle.moving_instructions.proofs.Leading.{drop_row}
 use Rattle.moving_instructions.proofs.places.drop_last.Goals as goal
 
 pub returns-clause-does : goal.returns-clause-does

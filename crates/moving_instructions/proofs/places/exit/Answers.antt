@@ -1,4 +1,4 @@
-use Rattle.moving_instructions.proofs.Places.{exit_row}
+use Rattle.moving_instructions.proofs.Leading.{exit_row}
 use Rattle.moving_instructions.proofs.places.exit.Goals as goal
 
 pub returns-clause-does : goal.returns-clause-does

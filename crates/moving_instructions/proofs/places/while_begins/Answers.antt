@@ -1,4 +1,4 @@
-use Rattle.moving_instructions.proofs.Places.{while_row}
+use Rattle.moving_instructions.proofs.Leading.{while_row}
 use Rattle.moving_instructions.proofs.places.while_begins.Goals as goal
 
 pub returns : goal.returns

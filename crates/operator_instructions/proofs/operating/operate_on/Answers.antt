@@ -3,7 +3,7 @@ use Rattle.object_operations.specs.Applies.{Applies}
 use Rattle.brs_builtins.specs.Table.{applied}
 use Rattle.frame_actions.specs.Actions.{dropped}
 use Rattle.frame_actions.proofs.Holding.{still_there}
-use Rattle.operator_instructions.proofs.Operating.{error_found, value_given}
+use Rattle.operator_instructions.proofs.Applying.{error_found, value_given}
 use Rattle.operator_instructions.proofs.operating.operate_on.Goals as goal
 
 pub push_value-requires : goal.push_value-requires

@@ -1,7 +1,7 @@
 use Rattle.actor_meaning.specs.declared.outcome.Outcome.TheVariants.{Raised}
 use Rattle.actor_errors.specs.Raising.{place_of, Ended}
-use Rattle.actor_errors.proofs.Ending.{carries_end, told_at, ends_step}
-use Rattle.actor_errors.proofs.raise.raise.Goals as goal
+use Rattle.actor_errors.proofs.Ends.{carries_end, told_at, ends_step}
+use Rattle.actor_errors.proofs.ending.raise.Goals as goal
 
 pub returns-clause-raises : goal.returns-clause-raises
 returns-clause-raises c =

@@ -1,5 +1,5 @@
-use Rattle.actor_errors.proofs.Ending.{line_of, handed_back}
-use Rattle.actor_errors.proofs.raise.raise_handed_back.Goals as goal
+use Rattle.actor_errors.proofs.Ends.{line_of, handed_back}
+use Rattle.actor_errors.proofs.ending.raise_handed_back.Goals as goal
 
 pub returns-clause-raises : goal.returns-clause-raises
 returns-clause-raises c =
