@@ -8,7 +8,7 @@ use Rattle.heap_meaning.specs.declared.plain.Plain.TheVariants as p
 use Rattle.heap_meaning.specs.Values.{Value, Direct, Cell, StoreValue, Scalar}
 use Rattle.heap_meaning.specs.Store.{Store}
 use Rattle.heap_meaning.specs.Cells.{Content, occurrence}
-use Rattle.heap_meaning.specs.Stands.{Naming, Outside, meaning}
+use Rattle.heap_meaning.specs.Stands.{Naming, meaning}
 use Rattle.heap_meaning.specs.Heap.{Heap, Belongs, content_at}
 use Rattle.heap_meaning.proofs.Showing.{out_belongs, Seen, sees_plain, sees_text, sees_array, sees_pairs, sees_message, sees}
 use Rattle.brs_code.specs.declared.instr.Instr.TheVariants as i
@@ -25,7 +25,7 @@ use Rattle.frame_actions.specs.Actions.{at_place, dropped, last_value, truth_in,
 use Rattle.frame_actions.proofs.Holding.{twice}
 use Rattle.frame_actions.proofs.Moving.{operand_there}
 use Rattle.actor_meaning.specs.declared.outcome.Outcome.TheVariants.{Went}
-use Rattle.actor_meaning.specs.View.{FrameIs, held}
+use Rattle.actor_meaning.specs.View.{Home, FrameIs, held}
 use Rattle.actor_meaning.specs.Performed.{working, Performed, Faulted}
 use Rattle.actor_meaning.proofs.Moves.{place_seen, place_moved, operands_fewer}
 use Rattle.moving_instructions.specs.Behind.{IsBehind}
@@ -35,7 +35,10 @@ use Rattle.moving_instructions.proofs.Values.{last_seen}
 -- ---- a Boolean
 
 truth_is : (v : Value) (b : Bool) → truth_of v ≡ Some b → v ≡ Direct (p.Truth b)
-truth_is (Direct (p.Truth c)) b e = cc
+truth_is (Direct (p.Truth c)) b e =
+    let s : Some c ≡ Some b = e in
+    let q : c ≡ b = cc in
+    ap (λ (t : Bool). Direct (p.Truth t)) q
 truth_is (Direct p.Invalid) b e = absurd cc
 truth_is (Direct (p.Small n)) b e = absurd cc
 truth_is (Direct (p.Big n)) b e = absurd cc
@@ -68,7 +71,7 @@ pub branch_row : (old mid : Heap) (before middle after : List Frame) (b : Bool) 
 branch_row old mid before middle after b next to place there behind truth chosen carries taken moved = performs old mid before after (dropped 1 (cond b next to)) (i.Branch to) (operand_there before there)
     (λ x is.
     let ops : operands_of before ≡ x.operands = operands_in before x is in
-    chosen_goes b x next to (subst (λ l. 0 < length l) ops there) (ap (λ l. truth_of (last_value l)) (sym ops) ∙ truth) (behind_of before x next behind is))
+    chosen_goes b x next to (subst (λ (l : List Operand). 0 < length l) ops there) (ap (λ l. truth_of (last_value l)) (sym ops) ∙ truth) (behind_of before x next behind is))
     (carries_both old mid mid before middle after carries (carries_place mid middle after place moved))
     (moved ∙ ap (changed (at_place place)) taken ∙ twice (without_operands 1) (at_place place) before ∙ ap (λ q. changed (dropped 1 q) before) chosen)
 
@@ -97,14 +100,15 @@ last_occurs k (Holds v ∷ operands) = omega arith
 last_occurs k (Items array next ∷ operands) = omega arith
 last_occurs k (Keys keys ∷ operands) = omega arith
 
+last_out : (number : ℕ) (own : List Home) (x : Frame) (below : List Frame) (k : ℕ) → occurrence k (last_value x.operands) ≤ held (working number own (x ∷ below)) k
+last_out number own x below k = let y = last_occurs k x.operands in omega arith
+
 pub no_truth : (old : Heap) (before : List Frame) (to : ℕ) → 0 < length (operands_of before) → truth_of (last_value (operands_of before)) ≡ None → Faulted old before E2 (i.Branch to)
 no_truth old [] to there e = absurd (omega arith)
 no_truth old (x ∷ below) to there e = λ image number own name homes frame waiting store is.
-    let v : Value = last_value x.operands in
-    let out : Outside = held (working number own (x ∷ below)) in
-    let belongs : Belongs old v = out_belongs old name store out v is.stands (λ k. let y = last_occurs k x.operands in omega arith) in
+    let belongs : Belongs old (last_value x.operands) = out_belongs old name store (held (working number own (x ∷ below))) (last_value x.operands) is.stands (last_out number own x below) in
     ap (λ vs. branch (setting_of image number homes frame) to vs store) (last_seen image name x frame is.machine_is.0 there)
-    ∙ value_fails (setting_of image number homes frame) to store name store v (meaning name v) (content_at old v) (sees old name store out v is.stands belongs) e
+    ∙ value_fails (setting_of image number homes frame) to store name store (last_value x.operands) (meaning name (last_value x.operands)) (content_at old (last_value x.operands)) (sees old name store (held (working number own (x ∷ below))) (last_value x.operands) is.stands belongs) e
 
 -- ---- operators that the left side decides
 

@@ -72,8 +72,8 @@ plain_pushed (x ∷ below) after plain to behind e = e ∙ ap (λ p. pushed (Dir
 pub plain_row : (heap : Heap) (before after : List Frame) (instr : Instr) (plain : Plain) → 0 < length before → pops instr ≡ 0 → GivesPlain instr plain → PushesPlain plain before after → Performed heap before heap after Went instr
 plain_row heap [] after instr plain there unpopped given e = absurd (omega arith)
 plain_row heap (x ∷ below) after instr plain there unpopped given e =
-    let to = x.head.place + 1 in
-    performs heap heap (x ∷ below) after (pushed (Direct plain) to) instr there (λ y is. plain_goes instr plain y to unpopped given (behind_of (x ∷ below) y to refl is)) (carries_plain heap (x ∷ below) after plain to there e) e
+    performs heap heap (x ∷ below) after (pushed (Direct plain) (x.head.place + 1)) instr there (λ y is. plain_goes instr plain y (x.head.place + 1) unpopped given (behind_of (x ∷ below) y (x.head.place + 1) refl is))
+    (carries_plain heap (x ∷ below) after plain (x.head.place + 1) there e) e
 
 pub load_m_row : (old new : Heap) (before after : List Frame) (to : ℕ) → 0 < length before → IsBehind before to → Carries old before new after → IfSome (innermost before) (λ x. after ≡ changed (pushed x.m to) before) → Performed old before new after Went i.LoadM
 load_m_row old new [] after to there behind carries e = absurd (omega arith)
@@ -129,7 +129,7 @@ store_row old new before after n to there behind carries e = performs old new be
       slots = slots;
       back = [];
       to = to;
-      acts = ap (λ vs. set_slot (setting_of image number homes frame) n vs store) (last_seen image name x frame f (subst (λ l. 0 < length l) (operands_in before x is) there)) ∙ ap (λ q. Goes slots store [] q) p;
+      acts = ap (λ vs. set_slot (setting_of image number homes frame) n vs store) (last_seen image name x frame f (subst (λ (l : List Operand). 0 < length l) (operands_in before x is) there)) ∙ ap (λ q. Goes slots store [] q) p;
       seen =
           place_moved image name (without_operands 1 (with_slot n v x)) (mm.with_operands (drop 1 frame.operands) set) to
           (operands_fewer image name (with_slot n v x) set 1 (slot_more image name x frame n v f));

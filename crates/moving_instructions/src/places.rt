@@ -12,7 +12,6 @@ use frame_actions::{drop_to, go_to};
 use frame_stack::FrameStack;
 
 /// The place behind the next instruction of the innermost call. Takes no memory.
-#[tactic(auto, using(crate::proofs::Going::place_fits, crate::proofs::Going::is_behind))]
 pub fn place_behind(frames: &FrameStack) -> usize
     requires there { 0 < length frames.now }
     requires inside { HasPlaceBehind frames.now }

@@ -62,21 +62,27 @@ stays : (name : Naming) (new : Heap) (store : Store) (before : Outside) (error :
 stays name new store before error (Gives w after) h = absurd h
 stays name new store before error (Raises wanted) h = h.stands
 
-pub error_found : (old new : Heap) (frames : List Frame) (instr : Instr) (n : ℕ) (operation : Operation) (arguments : List Value) (error : ErrorCode) → n ≤ length (operands_of frames) → reverse arguments ≡ take n (values (operands_of frames))
-    → Applies old new arguments (a.Raised error) (applied operation) → 0 < length frames → IsOperation instr n operation → Operated (Some error) old frames new frames instr
-error_found old new [] instr n operation arguments error room e applies there is = absurd (omega arith)
-error_found old new (x ∷ below) instr n operation arguments error room e applies there is = (
-  λ image number own name homes frame waiting store seen.
-      let before : Outside = held (working number own (x ∷ below)) in
-      let out : AreOut arguments before = λ k. let y = arguments_out arguments (x ∷ below) n e k in omega arith in
+are_out : (number : ℕ) (own : List Home) (x : Frame) (below : List Frame) (n : ℕ) (arguments : List Value) → reverse arguments ≡ take n (values x.operands) → AreOut arguments (held (working number own (x ∷ below)))
+are_out number own x below n arguments e = λ k. let y = arguments_out arguments (x ∷ below) n e k in omega arith
+
+beside_others : (others : Outside) (frames : List Frame) (n : ℕ) (arguments : List Value) → reverse arguments ≡ take n (values (operands_of frames)) → AreOut arguments (λ k. others k + call_references k frames)
+beside_others others frames n arguments e = λ k. let y = arguments_out arguments frames n e k in omega arith
+
+module _ (old new : Heap) (operation : Operation) (arguments : List Value) (error : ErrorCode) (n : ℕ) (applies : Applies old new arguments (a.Raised error) (applied operation)) where
+  found : (x : Frame) (below : List Frame) (instr : Instr) → n ≤ length x.operands → reverse arguments ≡ take n (values x.operands) → IsOperation instr n operation → Faulted old (x ∷ below) error instr
+  found x below instr room e is = λ image number own name homes frame waiting store seen.
       acts_as image number name homes x frame store instr n operation arguments is seen.machine_is.0 room e
-      ∙ faults_as (setting_of image number homes frame) name new store before error (applied operation (map (meaning name) arguments) store) (applies.answers name store before seen.stands out),
-  λ name store others s.
-      let before : Outside = λ k. others k + call_references k (x ∷ below) in
-      let out : AreOut arguments before = λ k. let y = arguments_out arguments (x ∷ below) n e k in omega arith in
-      stays name new store before error (applied operation (map (meaning name) arguments) store) (applies.answers name store before s out),
-  refl,
-)
+      ∙ faults_as (setting_of image number homes frame) name new store (held (working number own (x ∷ below))) error (applied operation (map (meaning name) arguments) store)
+      (applies.answers name store (held (working number own (x ∷ below))) seen.stands (are_out number own x below n arguments e))
+
+  unchanged : (frames : List Frame) → reverse arguments ≡ take n (values (operands_of frames)) → Carries old frames new frames
+  unchanged frames e = λ name store others s.
+      stays name new store (λ k. others k + call_references k frames) error (applied operation (map (meaning name) arguments) store)
+      (applies.answers name store (λ k. others k + call_references k frames) s (beside_others others frames n arguments e))
+
+  pub error_found : (frames : List Frame) (instr : Instr) → n ≤ length (operands_of frames) → reverse arguments ≡ take n (values (operands_of frames)) → 0 < length frames → IsOperation instr n operation → Operated (Some error) old frames new frames instr
+  error_found [] instr room e there is = absurd (omega arith)
+  error_found (x ∷ below) instr room e there is = (found x below instr room e is, unchanged (x ∷ below) e, refl)
 
 -- ---- a value
 
@@ -95,11 +101,11 @@ replaced_seen image name x frame n to v w instr f takes shows =
 stands_after : (name : Naming) (mid new : Heap) (store : Store) (others : Outside) (v : Value) (x : Frame) (below : List Frame) (n to : ℕ) → Stands name mid.cells store (λ k. occurrence k v + (others k + call_references k (x ∷ below)))
     → Carries mid (x ∷ below) new (dropped n to x ∷ below) → Stands name new.cells store (λ k. others k + call_references k (replaced n v to x ∷ below))
 stands_after name mid new store others v x below n to s carries =
-    let held_out : Outside = λ k. occurrence k v + others k in
-    let first_part : Stands name mid.cells store (λ k. held_out k + call_references k (x ∷ below)) =
-    stands_same name mid.cells store (λ k. occurrence k v + (others k + call_references k (x ∷ below))) (λ k. held_out k + call_references k (x ∷ below)) s (λ k. omega arith)
-    in
-    stands_same name new.cells store (λ k. held_out k + call_references k (dropped n to x ∷ below)) (λ k. others k + call_references k (replaced n v to x ∷ below)) (carries name store held_out first_part)
+    stands_same name new.cells store (λ k. (occurrence k v + others k) + call_references k (dropped n to x ∷ below)) (λ k. others k + call_references k (replaced n v to x ∷ below))
+    (
+    carries name store (λ k. occurrence k v + others k)
+    (stands_same name mid.cells store (λ k. occurrence k v + (others k + call_references k (x ∷ below))) (λ k. (occurrence k v + others k) + call_references k (x ∷ below)) s (λ k. omega arith))
+    )
     (λ k. let y = pushed_holds k v to (dropped n to x ∷ below) (omega arith) in omega arith)
 
 module _ (image : Image) (number : ℕ) (name : Naming) (own : List Home) (homes : List l.Home) (old mid new : Heap) (x : Frame) (below : List Frame) (frame : mm.Frame) (waiting : List mm.Suspended) (store : Store) (instr : Instr) (line n to : ℕ) (v : Value)
@@ -132,10 +138,8 @@ value_there : (old mid new : Heap) (x : Frame) (below : List Frame) (instr : Ins
     → Applies old mid arguments (a.Value v) (applied operation) → to ≡ x.head.place + 1 → Carries mid (x ∷ below) new (dropped n to x ∷ below) → IsOperation instr n operation
     → Performed old (x ∷ below) new (replaced n v to x ∷ below) Went instr
 value_there old mid new x below instr n to operation arguments v room e applies behind carries is = λ image number own line operands name homes frame waiting store seen.
-    let before : Outside = held (working number own (x ∷ below)) in
-    let out : AreOut arguments before = λ k. let y = arguments_out arguments (x ∷ below) n e k in omega arith in
-    value_shown image number name own homes old mid new x below frame waiting store instr line n to v seen is.takes behind carries (applied operation (map (meaning name) arguments) store) (applies.answers name store before seen.stands out)
-    (acts_as image number name homes x frame store instr n operation arguments is seen.machine_is.0 room e)
+    value_shown image number name own homes old mid new x below frame waiting store instr line n to v seen is.takes behind carries (applied operation (map (meaning name) arguments) store)
+    (applies.answers name store (held (working number own (x ∷ below))) seen.stands (are_out number own x below n arguments e)) (acts_as image number name homes x frame store instr n operation arguments is seen.machine_is.0 room e)
 
 pub value_given : (old mid new : Heap) (frames middle after : List Frame) (instr : Instr) (n to : ℕ) (operation : Operation) (arguments : List Value) (v : Value) → n ≤ length (operands_of frames) → reverse arguments ≡ take n (values (operands_of frames))
     → Applies old mid arguments (a.Value v) (applied operation) → 0 < length frames → IsBehind frames to → Carries mid frames new middle → middle ≡ changed (dropped n to) frames → after ≡ changed (pushed v to) middle → IsOperation instr n operation

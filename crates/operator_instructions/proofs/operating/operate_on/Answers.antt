@@ -13,8 +13,8 @@ push_value-requires c =
 
 pub returns-in-Raised-clause-ok : goal.returns-in-Raised-clause-ok
 returns-in-Raised-clause-ok c = λ instr is.
-    error_found c.args.heap.now c.apply-applied.new.heap c.args.frames.now instr c.args.n c.args.operation c.last.result.now c.in-Raised.error c.requires.operands c.last.ensures
-    (subst (λ r. Applies c.args.heap.now c.apply-applied.new.heap c.last.result.now r (applied c.args.operation)) c.in-Raised.is c.in_ok-applied.ensures.answer) c.requires.there is
+    error_found c.args.heap.now c.apply-applied.new.heap c.args.operation c.last.result.now c.in-Raised.error c.args.n
+    (subst (λ r. Applies c.args.heap.now c.apply-applied.new.heap c.last.result.now r (applied c.args.operation)) c.in-Raised.is c.in_ok-applied.ensures.answer) c.args.frames.now instr c.requires.operands c.last.ensures c.requires.there is
 
 pub returns-in_ok-push_value-in-Value-clause-ok : goal.returns-in_ok-push_value-in-Value-clause-ok
 returns-in_ok-push_value-in-Value-clause-ok c = λ instr is.
