@@ -26,6 +26,9 @@ Within references outside = (k : ℕ) → references k ≤ outside k
 abbrev framed : Function → CallHead → StoreValue → List mm.Operand → mm.Slots → mm.Frame
 framed f head v ops slots = record { kind = kind_meaning head.kind; function = f; home = head.home; m = v; place = head.place; operands = ops; slots = slots }
 
+abbrev home_with : (scope : ℕ) → StoreValue → l.Home
+home_with scope m = record { scope = scope; m = m }
+
 module _ (name name' : Naming) (outside : Outside) (agrees : Agrees name name' outside) where
   pub value_agrees : (v : Value) → Within (λ k. occurrence k v) outside → meaning name' v ≡ meaning name v
   value_agrees (Direct p) h = refl
@@ -86,7 +89,7 @@ module _ (name name' : Naming) (outside : Outside) (agrees : Agrees name name' o
   pub homes_agree : (homes : List Home) → Within (λ k. home_references k homes) outside → map (home_meaning name') homes ≡ map (home_meaning name) homes
   homes_agree [] h = refl
   homes_agree (x ∷ homes) h =
-      ap (λ w. record { scope = x.scope; m = w } ∷ map (home_meaning name') homes) (value_agrees x.m (λ k. let y = h k in omega arith))
+      ap (λ w. home_with x.scope w ∷ map (home_meaning name') homes) (value_agrees x.m (λ k. let y = h k in omega arith))
       ∙ ap (λ w. home_meaning name x ∷ w) (homes_agree homes (λ k. let y = h k in omega arith))
 
 -- the heap and its store may have changed, where the actor holds the same
