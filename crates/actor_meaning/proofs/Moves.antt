@@ -2,7 +2,7 @@
 use Rattle.std.proofs.Common.{◌≡◌, ℕ, zero, suc, ◌+◌, List, [], ◌∷◌, ◌++◌, length, take, drop, map, Some, None, refl, sym, ap, ◌∙◌, subst, arith}
 use Rattle.std.specs.Option.{option_map}
 use Rattle.std.specs.List.{drop-map, take-map}
-use Rattle.heap_meaning.specs.Values.{Value, StoreValue}
+use Rattle.heap_meaning.specs.Values.{Value}
 use Rattle.heap_meaning.specs.Store.{Store}
 use Rattle.heap_meaning.specs.Stands.{Naming, meaning}
 use Rattle.heap_meaning.specs.Heap.{Heap}
@@ -12,7 +12,6 @@ use Rattle.machine_meaning.specs.Image.{Image}
 use Rattle.machine_meaning.specs.Frame as mm
 use Rattle.machine_meaning.specs.Acted.{Acted, Goes}
 use Rattle.machine_meaning.specs.Stepping.{carried}
-use Rattle.frame_stack.specs.declared.header.CallHead.{CallHead}
 use Rattle.frame_stack.specs.Operand.{Operand, Holds, Items, Keys, value_of, values}
 use Rattle.frame_stack.specs.Frame.{Slots, Frame, with_operand, without_operands, with_slot, with_head, slot_value}
 use Rattle.actor_meaning.specs.declared.outcome.Outcome.TheVariants.{Went}

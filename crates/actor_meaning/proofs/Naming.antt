@@ -1,6 +1,5 @@
 -- By a naming that agrees with an earlier one on all that an actor holds, the actor is seen as the same machine.
 use Rattle.std.proofs.Common.{◌≡◌, ℕ, ◌≤◌, List, [], ◌∷◌, map, Some, None, refl, sym, ap, ◌∙◌, arith}
-use Rattle.chan_values.specs.declared.error_code.ErrorCode.{ErrorCode}
 use Rattle.heap_meaning.specs.Values.{Value, Direct, Cell, StoreValue}
 use Rattle.heap_meaning.specs.Store.{Store}
 use Rattle.heap_meaning.specs.Cells.{occurrence}

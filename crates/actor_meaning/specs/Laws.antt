@@ -1,5 +1,5 @@
 -- Laws of how an actor is seen.
-use Rattle.std.specs.Prelude.{◌≡◌, ℕ, List, ◌∷◌, length, Bool, false, Some}
+use Rattle.std.specs.Prelude.{◌≡◌, ℕ, List, ◌∷◌, length, false, Some}
 use Rattle.chan_values.specs.declared.error_code.ErrorCode.{ErrorCode}
 use Rattle.chan_values.specs.declared.error_code.ErrorCode.TheVariants.{E6}
 use Rattle.heap_meaning.specs.Store.{Store}

@@ -4,7 +4,6 @@ use Rattle.chan_values.specs.declared.access.Access as c
 use Rattle.chan_values.specs.declared.access.Access.TheVariants as a
 use Rattle.chan_values.specs.declared.portable.Portable.{Portable}
 use Rattle.chan_values.specs.declared.portable.Portable.TheVariants as p
-use Rattle.chan_values.specs.Tree.{Tree}
 use Rattle.chan_values.specs.View.{tree_of}
 use Rattle.brs_grammar.specs.Form.{Text}
 use Rattle.brs_meaning.specs.Request as q

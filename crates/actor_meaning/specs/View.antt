@@ -1,6 +1,6 @@
 -- How the running machine of an actor is seen as the machine of the meaning: its values by the naming of its heap, its functions by their
 -- numbers.
-use Rattle.std.specs.Prelude.{◌≡◌, ℕ, ◌+◌, List, [], ◌∷◌, map, Option, Some, None}
+use Rattle.std.specs.Prelude.{◌≡◌, ℕ, ◌+◌, List, [], ◌∷◌, map, Some}
 use Rattle.std.specs.Option.{option_map}
 use Rattle.heap_meaning.specs.Values.{Value}
 use Rattle.heap_meaning.specs.Store.{Store}

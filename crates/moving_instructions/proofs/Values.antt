@@ -1,5 +1,5 @@
 -- Instructions that put a value on the operands, or take one into a slot.
-use Rattle.std.proofs.Common.{◌≡◌, ℕ, ◌+◌, ◌<◌, List, [], ◌∷◌, ◌++◌, length, take, drop, map, Option, Some, None, refl, sym, ap, ◌∙◌, subst, arith}
+use Rattle.std.proofs.Common.{◌≡◌, ℕ, ◌+◌, ◌<◌, List, [], ◌∷◌, length, take, drop, map, Option, Some, None, refl, sym, ap, ◌∙◌, subst, arith}
 use Rattle.std.specs.Prelude.{Bool, IfSome, slice_get}
 use Rattle.std.specs.Option.{option_map}
 use Rattle.heap_meaning.specs.declared.plain.Plain.{Plain}

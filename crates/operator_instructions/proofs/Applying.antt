@@ -1,5 +1,5 @@
 -- What an operation on the last operands does to the machine that an actor is seen as.
-use Rattle.std.proofs.Common.{◌≡◌, ℕ, ◌+◌, ◌<◌, ◌≤◌, List, [], ◌∷◌, ◌++◌, length, reverse, take, drop, map, Some, None, refl, sym, ap, ◌∙◌, subst, arith}
+use Rattle.std.proofs.Common.{◌≡◌, ℕ, ◌+◌, ◌<◌, ◌≤◌, List, [], ◌∷◌, length, reverse, take, drop, map, Some, None, refl, sym, ap, ◌∙◌, subst, arith}
 use Rattle.chan_values.specs.declared.error_code.ErrorCode.{ErrorCode}
 use Rattle.heap_meaning.specs.Values.{Value, StoreValue}
 use Rattle.heap_meaning.specs.Store.{Store}
@@ -26,7 +26,7 @@ use Rattle.frame_stack.specs.Operand.{values}
 use Rattle.frame_stack.specs.Frame.{Frame, without_operands, operands_of, changed}
 use Rattle.call_release.specs.References.{call_references}
 use Rattle.frame_actions.specs.Actions.{at_place, dropped, pushed, Carries}
-use Rattle.frame_actions.proofs.Holding.{pushed_holds, still_there}
+use Rattle.frame_actions.proofs.Holding.{pushed_holds}
 use Rattle.actor_meaning.specs.declared.outcome.Outcome.TheVariants.{Went}
 use Rattle.actor_meaning.specs.declared.phase.Phase.TheVariants.{Works}
 use Rattle.actor_meaning.specs.View.{Home, home_references, held, FrameIs, MachineIs, ActorIs}
@@ -36,7 +36,6 @@ use Rattle.actor_meaning.specs.Performed.{working, Performed, Faulted}
 use Rattle.actor_meaning.proofs.Moves.{place_seen, operands_fewer, place_moved, went}
 use Rattle.actor_meaning.proofs.Naming.{machine_same, homes_agree}
 use Rattle.moving_instructions.specs.Behind.{IsBehind}
-use Rattle.moving_instructions.proofs.Going.{carries_both}
 use Rattle.moving_instructions.proofs.Values.{pushed_seen}
 use Rattle.operator_instructions.specs.Operated.{Operated, IsOperation}
 use Rattle.operator_instructions.proofs.Arguments.{arguments_out, arguments_seen, so_many}

@@ -1,5 +1,5 @@
 -- Which operation each instruction is.
-use Rattle.std.proofs.Common.{◌≡◌, ℕ, List, [], ◌∷◌, length, reverse, refl, arith}
+use Rattle.std.proofs.Common.{◌≡◌, List, [], ◌∷◌, length, reverse, refl, arith}
 use Rattle.heap_meaning.specs.Store.{Store}
 use Rattle.plain_operations.specs.declared.operator.UnaryOperator.TheVariants as u
 use Rattle.brs_code.specs.declared.instr.Instr.TheVariants as i

@@ -1,4 +1,4 @@
-use Rattle.std.proofs.Common.{◌≡◌, length, sym, ap, ◌∙◌, subst, arith}
+use Rattle.std.proofs.Common.{◌≡◌, length, ap, ◌∙◌, subst, arith}
 use Rattle.object_operations.specs.Applies.{Applies}
 use Rattle.brs_builtins.specs.Table.{applied}
 use Rattle.frame_actions.specs.Actions.{dropped}
