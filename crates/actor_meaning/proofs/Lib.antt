@@ -1,0 +1,4 @@
+pub mod Naming
+pub mod Moves
+pub mod Steps
+pub mod Calls
