@@ -4,5 +4,7 @@
 #![tactic(auto)]
 
 mod order;
+mod tables;
 
 pub use order::first_fault;
+pub use tables::tables;
