@@ -8,6 +8,7 @@ use Rattle.std.specs.Map.{keys_of}
 use Rattle.std.specs.Ordering.{nat_cmp}
 use Rattle.std.specs.Str.{bytes_eq}
 use Rattle.std.specs.declared.cmp.Ordering.TheVariants.{Less}
+use Rattle.std.proofs.lemmas.List.Kept.{IsStrictlySortedBy-filter}
 use Rattle.std.proofs.lemmas.Slice.Eq.{bytes_eq-Decides}
 use Rattle.folder_rules.specs.Names.{is_among}
 use Rattle.ordered_names.specs.Values.{behind, is_before, value_of}
@@ -75,10 +76,6 @@ among_filter : (test : List ℕ → Bool) (xs : List (List ℕ)) (name : List �
 among_filter test [] name = refl
 among_filter test (x ∷ xs) name = go (test x) (bytes_eq x name) refl refl (among_filter test xs name)
   where
-    and_true : (b : Bool) → (b && true) ≡ b
-    and_true true = refl
-    and_true false = refl
-
     and_false : (b : Bool) → (b && false) ≡ false
     and_false true = refl
     and_false false = refl
@@ -141,9 +138,17 @@ keys_among (e ∷ es) name = go (bytes_eq e.0 name) (keys_among es name)
     go true h = refl
     go false h = h
 
+pub units_among : {A : Type 0} (f : A → List ℕ) (xs : List A) (name : List ℕ) → is_some (value_of (map (λ x. (f x, tt)) xs) name) ≡ is_among (map f xs) name
+units_among f [] name = refl
+units_among f (x ∷ xs) name = go (bytes_eq (f x) name) (units_among f xs name)
+  where
+    go : (b : Bool) → is_some (value_of (map (λ x. (f x, tt)) xs) name) ≡ is_among (map f xs) name → is_some (cond b (Some tt) (value_of (map (λ x. (f x, tt)) xs) name)) ≡ (b || is_among (map f xs) name)
+    go true h = refl
+    go false h = h
+
 -- ---- the least of lists that are put together
 
-earlier_none : (o : Option (List ℕ)) → earlier o None ≡ o
+pub earlier_none : (o : Option (List ℕ)) → earlier o None ≡ o
 earlier_none None = refl
 earlier_none (Some a) = refl
 
@@ -180,6 +185,19 @@ behind_both (Some x) xs ys = go xs
             → cond b (z ∷ filter (is_before x) (l ++ ys)) (filter (is_before x) (l ++ ys)) ≡ cond b (z ∷ filter (is_before x) l) (filter (is_before x) l) ++ filter (is_before x) ys
         pass true h = ap (λ m. z ∷ m) h
         pass false h = h
+
+pub first_behind : (o : Option (List ℕ)) (names : List (List ℕ)) → IsStrictlySortedBy (slice_cmp nat_cmp) names → slice_get (behind o names) 0 ≡ least (behind o names)
+first_behind None names up = in_order_at names up 0
+first_behind (Some x) names up = in_order_at (filter (is_before x) names) (IsStrictlySortedBy-filter (slice_cmp nat_cmp) (is_before x) names up) 0
+
+-- the earliest so far, of a list that stands in order, and of the lists behind it
+pub earliest_of_both : (o first : Option (List ℕ)) (names rest : List (List ℕ)) → IsStrictlySortedBy (slice_cmp nat_cmp) names
+    → earlier first (least (behind o (names ++ rest))) ≡ earlier (earlier first (slice_get (behind o names) 0)) (least (behind o rest))
+earliest_of_both o first names rest up =
+    ap (λ l. earlier first (least l)) (behind_both o names rest)
+    ∙ ap (earlier first) (least_of_both (behind o names) (behind o rest))
+    ∙ earlier_both first (least (behind o names)) (least (behind o rest))
+    ∙ ap (λ m. earlier (earlier first m) (least (behind o rest))) (sym (first_behind o names up))
 
 -- ---- one name after another
 

@@ -121,6 +121,9 @@ pub record IsOfComponent (sources : List Source) (names : NameTable) (c : Pathed
 abbrev pub number : PlacedFunction → ℕ
 number f = f.first + f.place
 
+abbrev pub placed_number : PlacedFunction → List ℕ × ℕ
+placed_number f = (f.declared.now.name, number f)
+
 abbrev pub IsSmall : PlacedFunction → Type 0
 IsSmall f = number f < 4294967296
 

@@ -173,7 +173,7 @@ pub(crate) fn component_names(
 {
     let mut names = NameDraft::new(alloc);
     for component in components {
-        names.add(fold_name(alloc, component.file.name.as_str().as_bytes())?, ())?;
+        names.add_folded(alloc, &component.file.name, ())?;
     }
     names.into_ordered(alloc)
 }
@@ -184,7 +184,8 @@ fn built_in_places(alloc: Global, words: &[&str]) -> Result<NameDraft<usize>, No
 {
     let mut names = NameDraft::new(alloc);
     for (place, word) in words.iter().enumerate() {
-        names.add(text_of(alloc, word)?, place)?;
+        let name = text_of(alloc, word)?;
+        names.add(name, place)?;
     }
     Ok(names)
 }
@@ -198,8 +199,7 @@ pub(crate) fn kind_places(
 {
     let mut names = built_in_places(alloc, &BUILT_IN)?;
     for (i, component) in components.iter().enumerate() {
-        let name = fold_name(alloc, component.file.name.as_str().as_bytes())?;
-        names.add(name, BUILT_IN.len() + i)?;
+        names.add_folded(alloc, &component.file.name, BUILT_IN.len() + i)?;
     }
     names.into_ordered(alloc)
 }

@@ -25,7 +25,7 @@ pub(crate) fn function_names(
     functions: &[PlacedFunction<'_>],
 ) -> Result<OrderedNames<u32>, NoMemory>
     requires { spec.AreSmall (functions_of functions.now) }
-    ensures { IfOk result (λ names. (name : List ℕ) → value_of names name ≡ value_of (map spec.named_number (functions_of functions.now)) name) }
+    ensures { IfOk result (λ names. (name : List ℕ) → value_of names name ≡ value_of (map spec.placed_number functions.now) name) }
 {
     let mut names = NameDraft::new(alloc);
     for function in functions {
@@ -54,8 +54,8 @@ pub(crate) fn handlers(
 {
     let mut names = NameDraft::new(alloc);
     for field in fields {
-        let id = fold_name(alloc, field.id.as_str().as_bytes())?;
-        names.add(id, handler_of(alloc, field)?)?;
+        let handler = handler_of(alloc, field)?;
+        names.add_folded(alloc, &field.id, handler)?;
     }
     names.into_ordered(alloc)
 }
@@ -69,7 +69,7 @@ pub(crate) fn interface_names(
 {
     let mut names = NameDraft::new(alloc);
     for function in functions {
-        names.add(fold_name(alloc, function.name.as_str().as_bytes())?, ())?;
+        names.add_folded(alloc, &function.name, ())?;
     }
     names.into_ordered(alloc)
 }

@@ -64,7 +64,7 @@ fn earlier<'a>(first: Option<&'a Text>, second: Option<&'a Text>) -> Option<&'a 
 
 /// The first name behind a name, or of all, of the functions of these kinds' own scripts.
 pub(crate) fn first_along<'a>(mut kinds: Ancestry<'a>, name: Option<&str>) -> Option<&'a Text>
-    ensures { option_copied result ≡ least (behind (option_copied name) (spec.names_along kinds.entry)) }
+    ensures { option_copied result ≡ least (behind (option_copied name.entry) (spec.names_along kinds.entry)) }
 {
     let mut first = None;
     while let Some(kind) = kinds.next() {

@@ -9,7 +9,9 @@ ghost use Rattle.folder_rules.specs.Names.{HasPlaces};
 ghost use Rattle.folder_rules.specs.Scripts.{source_functions};
 ghost use Rattle.ordered_names.specs.Values.{value_of};
 ghost use Rattle.script_faults.specs.Sources.{all_sources, function_count};
+ghost use Rattle.kind_tables.specs.Ascending.{name_at};
 ghost use Rattle.kind_tables.specs.Rows as rows;
+ghost use Rattle.kind_tables.specs.Rows.{names_along};
 ghost use Rattle.kind_tables.specs.Tables as spec;
 
 use crate::ancestry::{Ancestry, row_at};
@@ -81,10 +83,10 @@ impl Tables {
     pub fn function(&self, kind: &[u8], name: &[u8]) -> Option<u32>
         ensures { result ≡ spec.function_in self.now kind.now name.now }
     {
-        if kind.is_empty() {
-            return self.source.get(name).copied();
+        match kind {
+            [] => self.source.get(name).copied(),
+            [_, ..] => function_along(self.ancestry(kind), name),
         }
-        function_along(self.ancestry(kind), name)
     }
 
     /// The function, folded, that a field of a kind or of its bases calls at its change; `None` exactly where there is no such field or it calls
@@ -121,9 +123,16 @@ impl Tables {
     pub fn name_at(&self, kind: &[u8], at: usize) -> Option<&Text>
         ensures { option_copied result ≡ spec.scope_name_in self.now kind.now at }
     {
-        if kind.is_empty() {
-            return self.source.name_at(at);
+        match kind {
+            [] => self.source.name_at(at),
+            [_, ..] => self.name_along(kind, at),
         }
+    }
+
+    /// The name at a place of the functions of a kind and its bases.
+    fn name_along(&self, kind: &[u8], at: usize) -> Option<&Text>
+        ensures { option_copied result ≡ name_at at (names_along (spec.rows_of self.now (folded kind.now))) }
+    {
         let mut name = first_along(self.ancestry(kind), None);
         let mut left = at;
         while left > 0 {

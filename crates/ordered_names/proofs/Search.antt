@@ -24,6 +24,10 @@ lt_or (suc n) zero = inr (omega arith)
 lt_or (suc n) (suc m) = elim (lt_or n m) [ inl l ↦ inl (omega arith) | inr l ↦ inr (omega arith) ]
 
 module _ {V : Type 0} where
+  pub none_ascend : IsAscending {V = V} []
+  unfolding IsStrictlySortedBy
+  none_ascend = tt
+
   -- the first name is below each later one
   first_less : (name : List ℕ) (l : List (List ℕ × V)) → AllByRecursion (λ y. compared name y ≡ Less) (keys_of l) → (i : ℕ) (d : List ℕ × V) → i < length l → compared name (get_or l i d).0 ≡ Less
   first_less name [] all i d h = absurd (omega arith)

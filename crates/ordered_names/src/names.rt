@@ -92,7 +92,7 @@ impl<V: Drop> OrderedNames<V> {
     /// The first name behind another, which is compared byte by byte, or the first of all where no other is given; `None` exactly where there is
     /// none. Takes a number of comparisons that grows with the logarithm of how many names there are, and no memory.
     pub fn first_behind(&self, name: Option<&str>) -> Option<&Text>
-        ensures name { option_copied result ≡ slice_get (behind (option_copied name) (keys_of self.now)) 0 }
+        ensures name { option_copied result ≡ slice_get (behind (option_copied name.entry) (keys_of self.now)) 0 }
         ensures ascending { IsAscending self.now }
     {
         match name {
