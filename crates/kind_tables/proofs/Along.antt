@@ -1,7 +1,7 @@
 -- What is looked for along rows is what the kinds of these rows say.
-use Rattle.std.proofs.Common.{◌≡◌, ℕ, zero, suc, Bool, true, false, ◌||◌, List, [], ◌∷◌, ◌++◌, Option, Some, None, is_some, length, map, refl, sym, ap, ◌∙◌, subst}
+use Rattle.std.proofs.Common.{◌≡◌, ℕ, ◌<◌, arith, ◌||◌, List, [], ◌∷◌, ◌++◌, Option, Some, None, is_some, length, map, refl, sym, ap, ◌∙◌, subst}
 use Rattle.std.specs.Prelude.{codes}
-use Rattle.std.specs.List.{flat_map, list_any}
+use Rattle.std.specs.List.{flat_map}
 use Rattle.std.specs.Map.{keys_of}
 use Rattle.std.specs.Option.{option_map, option_or}
 use Rattle.std.specs.Str.{bytes_eq}
@@ -84,6 +84,10 @@ module _ (sources : List Source) (components : List PathedComponent) (names : Li
       ∙ ap (λ l. is_among l name) (sym (map-append (λ (f : Function). f.name) (own k) (functions_along sources components ks)))
 
 -- ---- tables
+
+pub source_name : (tables : Tables) (kind : List ℕ) (at : ℕ) → length kind < 1 → name_at at (keys_of tables.source) ≡ T.scope_name_in tables kind at
+source_name tables [] at h = refl
+source_name tables (b ∷ bs) at h = absurd (omega arith)
 
 pub record AreFilled (all : List Source) (components : List PathedComponent) (tables : Tables) : Type 0 where
   pub rows : Each (IsRow all components (kind_names components)) tables.rows.items (all_kinds components)

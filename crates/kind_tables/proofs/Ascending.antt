@@ -1,5 +1,5 @@
 -- The least of names, and names in ascending order.
-use Rattle.std.proofs.Common.{◌≡◌, ℕ, zero, suc, Bool, true, false, cond, ◌||◌, ◌&&◌, List, [], ◌∷◌, ◌++◌, Option, Some, None, is_some, map, refl, sym, ap, ◌∙◌, subst}
+use Rattle.std.proofs.Common.{◌≡◌, ℕ, zero, suc, ◌-◌, ◌<◌, Bool, true, false, cond, ◌||◌, ◌&&◌, List, [], ◌∷◌, ◌++◌, Option, Some, None, is_some, map, refl, sym, ap, ◌∙◌, arith}
 use Rattle.std.specs.Prelude.{filter, slice_get}
 use Rattle.std.specs.Cmp.Lexicographic.{slice_cmp}
 use Rattle.std.specs.List.{AllByRecursion}
@@ -93,11 +93,13 @@ filter_same test xs ys alike name = among_filter test xs name ∙ ap (λ b. b &&
 
 pub name_at_same : (n : ℕ) (xs ys : List (List ℕ)) → SameNames xs ys → name_at n xs ≡ name_at n ys
 name_at_same zero xs ys alike = least_same xs ys alike
-name_at_same (suc n) xs ys alike = go (least xs) ∙ ap (λ o. name_at n (behind_one o ys)) (least_same xs ys alike)
+name_at_same (suc n) xs ys alike =
+    go (λ x. name_at_same n (filter (is_before x) xs) (filter (is_before x) ys) (filter_same (is_before x) xs ys alike)) (least xs)
+    ∙ ap (λ o. name_at n (behind_one o ys)) (least_same xs ys alike)
   where
-    go : (o : Option (List ℕ)) → name_at n (behind_one o xs) ≡ name_at n (behind_one o ys)
-    go None = refl
-    go (Some x) = name_at_same n (filter (is_before x) xs) (filter (is_before x) ys) (filter_same (is_before x) xs ys alike)
+    go : ((x : List ℕ) → name_at n (filter (is_before x) xs) ≡ name_at n (filter (is_before x) ys)) → (o : Option (List ℕ)) → name_at n (behind_one o xs) ≡ name_at n (behind_one o ys)
+    go rest None = refl
+    go rest (Some x) = rest x
 
 -- ---- names that stand in order
 
@@ -138,11 +140,11 @@ keys_among (e ∷ es) name = go (bytes_eq e.0 name) (keys_among es name)
     go true h = refl
     go false h = h
 
-pub units_among : {A : Type 0} (f : A → List ℕ) (xs : List A) (name : List ℕ) → is_some (value_of (map (λ x. (f x, tt)) xs) name) ≡ is_among (map f xs) name
+pub units_among : {A : Type 0} (f : A → List ℕ) (xs : List A) (name : List ℕ) → is_some (value_of (map (λ x. (f x, tt {0})) xs) name) ≡ is_among (map f xs) name
 units_among f [] name = refl
 units_among f (x ∷ xs) name = go (bytes_eq (f x) name) (units_among f xs name)
   where
-    go : (b : Bool) → is_some (value_of (map (λ x. (f x, tt)) xs) name) ≡ is_among (map f xs) name → is_some (cond b (Some tt) (value_of (map (λ x. (f x, tt)) xs) name)) ≡ (b || is_among (map f xs) name)
+    go : (b : Bool) → is_some (value_of (map (λ x. (f x, tt {0})) xs) name) ≡ is_among (map f xs) name → is_some (cond b (Some (tt {0})) (value_of (map (λ x. (f x, tt {0})) xs) name)) ≡ (b || is_among (map f xs) name)
     go true h = refl
     go false h = h
 
@@ -221,19 +223,26 @@ filter_twice x y h (z ∷ zs) = go (is_before x z) (is_before y z) refl refl (fi
 abbrev AreLast : List (List ℕ) → List (List ℕ) → Type 0
 AreLast names some = (x : List ℕ) → is_among some x ≡ true → filter (is_before x) some ≡ filter (is_before x) names
 
+and_right : (a b : Bool) → (a && b) ≡ true → b ≡ true
+and_right true b h = h
+and_right false b h = absurd cc
+
 later_is : (n : ℕ) (names some : List (List ℕ)) → AreLast names some → name_at n some ≡ later n (least some) names
 later_is zero names some last = refl
-later_is (suc n) names some last = go (least some) (least_says some)
+later_is (suc n) names some last =
+    go (λ x. later_is n names (filter (is_before x) names) (λ y h. filter_twice x y (and_right (is_among names y) (is_before x y) (sym (among_filter (is_before x) names y) ∙ h)) names)) (least some) (least_says some)
   where
-    and_right : (a b : Bool) → (a && b) ≡ true → b ≡ true
-    and_right true b h = h
-    and_right false b h = absurd cc
-
-    go : (o : Option (List ℕ)) → Says some o → name_at n (behind_one o some) ≡ later (suc n) o names
-    go None s = none_at n
-    go (Some x) s =
-        ap (name_at n) (last x s.among)
-        ∙ later_is n names (filter (is_before x) names) (λ y h. filter_twice x y (and_right (is_among names y) (is_before x y) (sym (among_filter (is_before x) names y) ∙ h)) names)
+    go : ((x : List ℕ) → name_at n (filter (is_before x) names) ≡ later n (least (filter (is_before x) names)) names) → (o : Option (List ℕ)) → Says some o → name_at n (behind_one o some) ≡ later (suc n) o names
+    go rest None s = none_at n
+    go rest (Some x) s = ap (name_at n) (last x s.among) ∙ rest x
 
 pub name_at_is : (n : ℕ) (names : List (List ℕ)) → name_at n names ≡ later n (least names) names
 name_at_is n names = later_is n names names (λ x h. refl)
+
+pub later_none : (n : ℕ) (names : List (List ℕ)) → later n None names ≡ None
+later_none zero names = refl
+later_none (suc n) names = refl
+
+pub later_step : (n : ℕ) (x : List ℕ) (names : List (List ℕ)) → 0 < n → later n (Some x) names ≡ later (n - 1) (least (filter (is_before x) names)) names
+later_step zero x names h = absurd (omega arith)
+later_step (suc n) x names h = let e : n ≡ suc n - 1 = omega arith in ap (λ m. later m (least (filter (is_before x) names)) names) e

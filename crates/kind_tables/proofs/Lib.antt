@@ -3,5 +3,5 @@ mod Ascending
 mod Named
 mod Walks
 mod Numbers
-mod Rows
+mod KindRows
 mod Along

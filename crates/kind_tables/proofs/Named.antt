@@ -1,12 +1,12 @@
 -- Lists of names with values, one after another.
-use Rattle.std.proofs.Common.{◌≡◌, ℕ, ◌+◌, ◌<◌, Bool, true, false, cond, ◌||◌, List, [], ◌∷◌, ◌++◌, Option, Some, None, is_some, length, map, take, get_or, refl, sym, ap, ◌∙◌, arith}
+use Rattle.std.proofs.Common.{◌≡◌, ℕ, ◌+◌, ◌<◌, Bool, true, false, cond, List, [], ◌∷◌, ◌++◌, Option, Some, None, length, map, take, get_or, refl, sym, ap, ◌∙◌, arith}
 use Rattle.std.specs.Prelude.{if◌then◌else◌}
 use Rattle.std.specs.Option.{option_map, option_or}
 use Rattle.std.specs.Str.{bytes_eq}
 use Rattle.std.proofs.lemmas.List.{map-append}
 use Rattle.chan_values.specs.Folded.{folded}
 use Rattle.component_files.specs.declared.element.FieldElement.{FieldElement}
-use Rattle.folder_rules.specs.Names.{is_among, either, place_of}
+use Rattle.folder_rules.specs.Names.{either, place_of}
 use Rattle.folder_rules.proofs.Lists.{map_more}
 use Rattle.folder_rules.proofs.Tables.{place_behind}
 use Rattle.folder_rules.specs.Scripts.{Function, function_named}

@@ -1,8 +1,7 @@
 -- The numbers of functions are below 2^32.
-use Rattle.std.proofs.Common.{◌≡◌, ℕ, zero, suc, ◌+◌, ◌<◌, ◌≤◌, Bool, true, false, cond, List, [], ◌∷◌, ◌++◌, Option, Some, None, length, get_or, map, refl, sym, ap, ◌∙◌, arith, subst}
+use Rattle.std.proofs.Common.{◌≡◌, ℕ, zero, suc, ◌+◌, ◌<◌, ◌≤◌, Bool, true, false, cond, List, [], ◌∷◌, ◌++◌, Option, Some, None, length, get_or, sym, arith, subst}
 use Rattle.std.specs.Prelude.{filter}
 use Rattle.std.specs.List.{AllByRecursion, flat_map}
-use Rattle.std.specs.Str.{bytes_eq}
 use Rattle.std.proofs.lemmas.List.Sums.{sum_by-cons}
 use Rattle.component_files.specs.declared.element.InlineScript.{InlineScript}
 use Rattle.component_files.specs.declared.element.ScriptElement.{ScriptElement}
@@ -10,8 +9,8 @@ use Rattle.folder_rules.specs.declared.component.PathedComponent.{PathedComponen
 use Rattle.folder_rules.specs.declared.source.DeclaredFunction.{DeclaredFunction}
 use Rattle.folder_rules.specs.declared.source.SourceFunctions.{SourceFunctions}
 use Rattle.folder_rules.specs.Names.{is_among}
-use Rattle.folder_rules.specs.Scripts.{Source, Function, each_once, file_of, functions_from, functions_in, inline_left, inline_source, is_file, is_in_source, is_inline_in, numbered, own_functions, path_of_uri, script_sources, source_functions, uri_source}
-use Rattle.script_faults.specs.Functions.{function_of, functions_of}
+use Rattle.folder_rules.specs.Scripts.{Source, each_once, functions_from, functions_in, inline_left, inline_source, is_file, is_in_source, is_inline_in, numbered, own_functions, path_of_uri, script_sources, source_functions, uri_source}
+use Rattle.script_faults.specs.Functions.{functions_of}
 use Rattle.script_faults.specs.Sources.{function_count}
 use Rattle.script_faults.specs.declared.functions.PlacedFunction.{PlacedFunction}
 use Rattle.kind_tables.specs.Rows.{AreFew, AreSmall, IsSmall}
@@ -64,12 +63,12 @@ scripts_few all path inline (s ∷ ss) a b =
 
 once_few : (named : List (List ℕ)) (ss : List Source) → AreFew ss → AreFew (each_once named ss)
 once_few named [] a = tt
-once_few named (s ∷ ss) a = go s.text.inline (is_among named s.text.path)
+once_few named (s ∷ ss) a = go (λ other. once_few other ss a.1) s.text.inline (is_among named s.text.path)
   where
-    go : (inline known : Bool) → AreFew (cond inline (s ∷ each_once named ss) (cond known (each_once named ss) (s ∷ each_once (named ++ s.text.path ∷ []) ss)))
-    go true known = (a.0, once_few named ss a.1)
-    go false true = once_few named ss a.1
-    go false false = (a.0, once_few (named ++ s.text.path ∷ []) ss a.1)
+    go : ((other : List (List ℕ)) → AreFew (each_once other ss)) → (inline known : Bool) → AreFew (cond inline (s ∷ each_once named ss) (cond known (each_once named ss) (s ∷ each_once (named ++ s.text.path ∷ []) ss)))
+    go rest true known = (a.0, rest named)
+    go rest false true = rest named
+    go rest false false = (a.0, rest (named ++ s.text.path ∷ []))
 
 -- ---- functions
 

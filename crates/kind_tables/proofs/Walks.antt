@@ -1,5 +1,5 @@
 -- Rows that stand for kinds, along bases.
-use Rattle.std.proofs.Common.{◌≡◌, ℕ, zero, suc, ◌+◌, ◌-◌, ◌<◌, ◌≤◌, Bool, true, false, cond, List, [], ◌∷◌, Option, Some, None, length, map, refl, sym, ap, ◌∙◌, arith, subst}
+use Rattle.std.proofs.Common.{◌≡◌, ℕ, zero, suc, ◌+◌, ◌-◌, ◌≤◌, Bool, true, false, cond, List, [], ◌∷◌, Option, Some, None, length, map, refl, sym, ap, arith, subst}
 use Rattle.std.specs.Prelude.{slice_get}
 use Rattle.std.specs.Str.{bytes_eq}
 use Rattle.folder_rules.specs.declared.component.PathedComponent.{PathedComponent}
@@ -60,13 +60,13 @@ module _ (sources : List Source) (components : List PathedComponent) (names : Li
     pub walk_is : (n : ℕ) (from : Option (List ℕ)) → Each (IsRow sources components names) (rows_from n rows (base_place names from)) (ancestors n kinds from)
     walk_is zero from = tt
     walk_is (suc n) None = tt
-    walk_is (suc n) (Some from) = step (row_at rows (place_of names from)) (kind_named kinds from) (stand_at from)
+    walk_is (suc n) (Some from) = step (walk_is n) (row_at rows (place_of names from)) (kind_named kinds from) (stand_at from)
       where
-        step : (row : Option KindRow) (kind : Option Kind) → Stand row kind → Each (IsRow sources components names) (row_then row (λ r. rows_from n rows r.base)) (K.where_there kind (λ k. k ∷ ancestors n kinds k.base))
-        step None None s = tt
-        step None (Some k) s = absurd s
-        step (Some r) None s = absurd s
-        step (Some r) (Some k) s = (s, subst (λ o. Each (IsRow sources components names) (rows_from n rows o) (ancestors n kinds k.base)) (sym s.base_is) (walk_is n k.base))
+        step : ((base : Option (List ℕ)) → Each (IsRow sources components names) (rows_from n rows (base_place names base)) (ancestors n kinds base)) → (row : Option KindRow) (kind : Option Kind) → Stand row kind → Each (IsRow sources components names) (row_then row (λ r. rows_from n rows r.base)) (K.where_there kind (λ k. k ∷ ancestors n kinds k.base))
+        step rest None None s = tt
+        step rest None (Some k) s = absurd s
+        step rest (Some r) None s = absurd s
+        step rest (Some r) (Some k) s = (s, subst (λ o. Each (IsRow sources components names) (rows_from n rows o) (ancestors n kinds k.base)) (sym s.base_is) (rest k.base))
 
     pub ancestry_is : (kind : List ℕ) → Each (IsRow sources components names) (rows_from (length rows) rows (place_of names kind)) (K.ancestry kinds kind)
     ancestry_is kind = subst (λ n. Each (IsRow sources components names) (rows_from n rows (place_of names kind)) (K.ancestry kinds kind)) (sym (each_length (IsRow sources components names) rows kinds are)) (walk_is (length kinds) (Some kind))

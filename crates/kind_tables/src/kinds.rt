@@ -67,7 +67,7 @@ fn bare_row(alloc: Global, base: Option<usize>, base_name: Option<Text>) -> Kind
 
 /// A built-in kind.
 fn built_in_row(alloc: Global, base: Option<(usize, &str)>) -> Result<KindRow, NoMemory>
-    ensures { IfOk result (λ row. spec.IsOfBase row (spec.base_of base)) }
+    ensures { IfOk result (λ row. spec.IsOfBase row (spec.base_of base.entry)) }
 {
     match base {
         Some((place, name)) => {
@@ -178,8 +178,8 @@ pub(crate) fn component_names(
     names.into_ordered(alloc)
 }
 
-/// Adds words, each with its place.
-fn built_in_places(alloc: Global, words: &[&str]) -> Result<NameDraft<usize>, NoMemory>
+/// Words, each with its place.
+fn word_places(alloc: Global, words: &[&str]) -> Result<NameDraft<usize>, NoMemory>
     ensures { IfOk result (λ names. (name : List ℕ) → value_in names name ≡ place_of (map (λ word. word.now) words.now) name) }
 {
     let mut names = NameDraft::new(alloc);
@@ -190,6 +190,13 @@ fn built_in_places(alloc: Global, words: &[&str]) -> Result<NameDraft<usize>, No
     Ok(names)
 }
 
+#[tactic(auto, unfolding(folder_rules::specs::Kinds::built_in_names))]
+fn built_in_places(alloc: Global) -> Result<NameDraft<usize>, NoMemory>
+    ensures { IfOk result (λ names. (name : List ℕ) → value_in names name ≡ place_of built_in_names name) }
+{
+    word_places(alloc, &BUILT_IN)
+}
+
 /// The place of the row of each kind.
 pub(crate) fn kind_places(
     alloc: Global,
@@ -197,7 +204,7 @@ pub(crate) fn kind_places(
 ) -> Result<OrderedNames<usize>, NoMemory>
     ensures { IfOk result (λ names. (name : List ℕ) → value_of names name ≡ place_of (kind_names components.now) name) }
 {
-    let mut names = built_in_places(alloc, &BUILT_IN)?;
+    let mut names = built_in_places(alloc)?;
     for (i, component) in components.iter().enumerate() {
         names.add_folded(alloc, &component.file.name, BUILT_IN.len() + i)?;
     }

@@ -13,7 +13,7 @@ use std::alloc::Global;
 
 /// The number of a function among all of the channel.
 fn number_of(function: PlacedFunction<'_>) -> u32
-    requires { spec.IsSmall function.entry }
+    requires { spec.IsSmall function }
     ensures { result ≡ spec.number function.entry }
 {
     (function.first + function.place) as u32

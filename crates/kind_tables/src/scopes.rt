@@ -47,7 +47,7 @@ pub(crate) fn has_interface_along(mut kinds: Ancestry<'_>, name: &[u8]) -> bool
 
 /// The earlier of two names, or the one that is there.
 fn earlier<'a>(first: Option<&'a Text>, second: Option<&'a Text>) -> Option<&'a Text>
-    ensures { option_copied result ≡ earlier (option_copied first) (option_copied second) }
+    ensures { option_copied result ≡ earlier (option_copied first.entry) (option_copied second.entry) }
 {
     match (first, second) {
         (Some(first), Some(second)) => {

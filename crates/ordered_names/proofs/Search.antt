@@ -1,12 +1,11 @@
 -- What a binary search finds among names that ascend.
-use Rattle.std.proofs.Common.{◌≡◌, ◌⊎◌, inl, inr, ℕ, zero, suc, ◌+◌, ◌<◌, ◌≤◌, Bool, true, false, cond, List, [], ◌∷◌, Option, Some, None, Result, Ok, Err, IfOk, IfErr, length, drop, leb, get_or, refl, sym, ap, ◌∙◌, subst, arith, add-one}
+use Rattle.std.proofs.Common.{◌≡◌, ◌⊎◌, inl, inr, ℕ, zero, suc, ◌<◌, ◌≤◌, Bool, true, false, cond, List, [], ◌∷◌, Some, None, Result, Ok, Err, IfOk, IfErr, length, drop, leb, get_or, refl, sym, ap, ◌∙◌, subst, arith, add-one}
 use Rattle.std.specs.Prelude.{filter, slice_get}
 use Rattle.std.specs.Cmp.Lexicographic.{slice_cmp}
 use Rattle.std.specs.List.{AllByRecursion}
 use Rattle.std.specs.List.Sorted.{IsBinarySearchResult, IsNonDecreasingBy, IsPartitionedBy, IsPartitionPoint, IsSearchInRange, IsStrictlySortedBy}
 use Rattle.std.specs.Map.{keys_of}
 use Rattle.std.specs.Ordering.{is_eq, is_le, is_lt, nat_cmp, ordering_index, ordering_reverse}
-use Rattle.std.specs.Str.{bytes_eq}
 use Rattle.std.specs.declared.cmp.Ordering.{Ordering}
 use Rattle.std.specs.declared.cmp.Ordering.TheVariants.{Less, Equal, Greater}
 use Rattle.std.proofs.lemmas.Cmp.{alike_right, nat_list_cmp_total}
@@ -23,11 +22,11 @@ lt_or zero (suc m) = inl (omega arith)
 lt_or (suc n) zero = inr (omega arith)
 lt_or (suc n) (suc m) = elim (lt_or n m) [ inl l ↦ inl (omega arith) | inr l ↦ inr (omega arith) ]
 
-module _ {V : Type 0} where
-  pub none_ascend : IsAscending {V = V} []
-  unfolding IsStrictlySortedBy
-  none_ascend = tt
+pub none_ascend : (V : Type 0) → IsAscending {V = V} []
+unfolding IsStrictlySortedBy
+none_ascend V = tt
 
+module _ {V : Type 0} where
   -- the first name is below each later one
   first_less : (name : List ℕ) (l : List (List ℕ × V)) → AllByRecursion (λ y. compared name y ≡ Less) (keys_of l) → (i : ℕ) (d : List ℕ × V) → i < length l → compared name (get_or l i d).0 ≡ Less
   first_less name [] all i d h = absurd (omega arith)
@@ -59,11 +58,11 @@ module _ {V : Type 0} where
   rising : (l : List (List ℕ × V)) → IsAscending l → (name : List ℕ) → IsNonDecreasingBy (λ e. ordering_index (compared e.0 name)) l
   rising l up name = searchable_from_sorted nat_list_cmp_total (λ (e : List ℕ × V). e.0) l name (λ k d low h. subst (λ j. is_lt (compared (get_or l j d).0 (get_or l k d).0) ≡ false) (sym (add-one k)) (neighbours l up k d (omega arith)))
 
-  pub searched : (l : List (List ℕ × V)) → IsAscending l → (name : List ℕ) (r : Result ℕ ℕ) → IsSearchInRange r (length l) → IsBinarySearchResult (λ e. compared e.0 name) l r → IfOk r (IsAt l name) × IfErr r (λ gap. value_of l name ≡ None)
-  searched l up name (Ok at) bound equal = (record { within = bound; is = λ d. found_at l up name at d bound (equal d) }, tt)
+  pub searched : (l : List (List ℕ × V)) → IsAscending l → (name : List ℕ) (r : Result ℕ ℕ) → IsSearchInRange r (length l) → IsBinarySearchResult (λ e. compared e.0 name) l r → record { found : IfOk r (IsAt l name); absent : IfErr r (λ gap. value_of l name ≡ None) }
+  searched l up name (Ok at) bound equal = record { found = record { within = bound; is = λ d. found_at l up name at d bound (equal d) }; absent = tt }
   searched l up name (Err gap) bound parted =
       let parts = parted (rising l up name) in
-      (tt, not_found l name (λ k d h. elim (lt_or k gap) [ inl before ↦ ap is_eq (parts.0 k d (omega arith) before) | inr behind ↦ ap is_eq (parts.1 k d behind h) ]))
+      record { found = tt; absent = not_found l name (λ k d h. elim (lt_or k gap) [ inl before ↦ ap is_eq (parts.0 k d (omega arith) before) | inr behind ↦ ap is_eq (parts.1 k d behind h) ]) }
 
 -- ---- the names behind a name
 

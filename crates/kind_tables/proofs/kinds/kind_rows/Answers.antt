@@ -7,7 +7,7 @@ use Rattle.script_faults.specs.Sources.{all_sources}
 use Rattle.script_faults.proofs.Distinct.{distinct}
 use Rattle.script_faults.proofs.KindRows.{each_more}
 use Rattle.kind_tables.specs.Rows.{IsRow}
-use Rattle.kind_tables.proofs.Rows.{built_in_are_rows, component_is_row}
+use Rattle.kind_tables.proofs.KindRows.{built_in_are_rows, component_is_row}
 use Rattle.kind_tables.proofs.kinds.kind_rows.Goals as goal
 
 pub loop-component-init : goal.loop-component-init

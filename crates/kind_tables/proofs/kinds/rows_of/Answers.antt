@@ -1,4 +1,4 @@
-use Rattle.std.proofs.Common.{◌<◌, [], ◌∷◌, ◌+◌, ◌++◌, List, ℕ, Option, None, sym, ap, subst, length, map, take, get_or, arith, Bor}
+use Rattle.std.proofs.Common.{◌<◌, [], ◌∷◌, ◌+◌, ◌++◌, List, ℕ, Option, None, sym, subst, length, map, take, get_or, arith, Bor}
 use Rattle.folder_rules.proofs.Lists.{get_or_self, map_more}
 use Rattle.script_faults.specs.Rows.{Each}
 use Rattle.script_faults.proofs.KindRows.{each_more}

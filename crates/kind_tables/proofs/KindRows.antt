@@ -1,5 +1,5 @@
 -- Rows of built-in kinds and of components.
-use Rattle.std.proofs.Common.{◌≡◌, ℕ, ◌<◌, List, [], ◌∷◌, ◌++◌, Option, Some, None, is_some, length, get_or, map, refl, sym, ap, ◌∙◌, subst}
+use Rattle.std.proofs.Common.{◌≡◌, ℕ, ◌<◌, List, [], ◌∷◌, ◌++◌, Option, is_some, length, get_or, map, refl, sym, ap, ◌∙◌, subst}
 use Rattle.std.specs.Prelude.{codes}
 use Rattle.std.specs.Option.{option_map}
 use Rattle.std.proofs.lemmas.List.{append-nil}
@@ -56,15 +56,31 @@ built_in_say : (cs : List PathedComponent) → Distinct built_in_names cs → (n
 unfolding built_in_kinds built_in_names
 built_in_say cs d names = (
   record { name = refl; place = refl; alone = none_named built_in_names cs d (codes "node") refl },
-  (record { name = refl; place = refl; alone = none_named built_in_names cs d (codes "group") refl },
-  (record { name = refl; place = refl; alone = none_named built_in_names cs d (codes "layoutgroup") refl },
-  (record { name = refl; place = refl; alone = none_named built_in_names cs d (codes "scene") refl },
-  (record { name = refl; place = refl; alone = none_named built_in_names cs d (codes "label") refl },
-  (record { name = refl; place = refl; alone = none_named built_in_names cs d (codes "rectangle") refl },
-  (record { name = refl; place = refl; alone = none_named built_in_names cs d (codes "poster") refl },
-  (record { name = refl; place = refl; alone = none_named built_in_names cs d (codes "contentnode") refl },
-  (record { name = refl; place = refl; alone = none_named built_in_names cs d (codes "task") refl },
-  tt)))))))),
+  (
+    record { name = refl; place = refl; alone = none_named built_in_names cs d (codes "group") refl },
+    (
+      record { name = refl; place = refl; alone = none_named built_in_names cs d (codes "layoutgroup") refl },
+      (
+        record { name = refl; place = refl; alone = none_named built_in_names cs d (codes "scene") refl },
+        (
+          record { name = refl; place = refl; alone = none_named built_in_names cs d (codes "label") refl },
+          (
+            record { name = refl; place = refl; alone = none_named built_in_names cs d (codes "rectangle") refl },
+            (
+              record { name = refl; place = refl; alone = none_named built_in_names cs d (codes "poster") refl },
+              (
+                record { name = refl; place = refl; alone = none_named built_in_names cs d (codes "contentnode") refl },
+                (
+                  record { name = refl; place = refl; alone = none_named built_in_names cs d (codes "task") refl },
+                  tt,
+                ),
+              ),
+            ),
+          ),
+        ),
+      ),
+    ),
+  ),
 )
 
 pub built_in_are_rows : (sources : List Source) (cs : List PathedComponent) → Distinct built_in_names cs → (names : List (List ℕ)) (rows : List KindRow) → Each IsOfBase rows built_in_bases → Each (IsRow sources cs (built_in_names ++ names)) rows built_in_kinds
