@@ -3,6 +3,8 @@
 //! Source: SceneGraph XML Guide, "component", "interface", "script" and "children".
 #![tactic(auto)]
 
+mod checked;
 mod order;
 
+pub use checked::tables;
 pub use order::first_fault;

@@ -75,7 +75,7 @@ fn check_sources(
 }
 
 /// The first fault of bases, or of the kinds behind.
-fn check_named(
+pub(crate) fn check_named(
     alloc: Global,
     names: &NameTable,
     components: &[PathedComponent],

@@ -1,4 +1,4 @@
-//! The tests of the faults of scripts and functions, and of the order of all kinds of faults.
+//! The tests of the faults of scripts and functions, of the order of all kinds of faults, and of the tables of kinds.
 //!
 //! They stand in a crate of their own, since a crate with tests is proved twice.
 #![tactic(auto)]
@@ -11,5 +11,7 @@ mod checks;
 mod folders;
 #[cfg(test)]
 mod order_tests;
+#[cfg(test)]
+mod table_tests;
 #[cfg(test)]
 mod tests;

@@ -1,0 +1,4 @@
+pub mod Ascending
+pub mod Scopes
+pub mod Rows
+pub mod Tables
