@@ -1,0 +1,6 @@
+pub mod FileTurns
+pub mod FolderKinds
+pub mod OneFault
+pub mod SourceSizes
+pub mod ScriptSizes
+pub mod FewFunctions
