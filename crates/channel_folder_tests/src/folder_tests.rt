@@ -1,5 +1,5 @@
 //! What no clause says: with ample memory a folder is checked, and its first fault is found.
-use crate::folders::{Row, answer};
+use crate::folders::{Row, answer, entries};
 use std::test::Fail;
 
 const MANIFEST: Row = ("manifest", "title=a\n");
@@ -145,12 +145,28 @@ fn a_folder_is_refused_for_its_first_fault(rt: HostRuntime) -> Result<(), Fail> 
                 MANIFEST,
                 MAIN,
             ],
-            "refused F17 components/a.xml:2 main",
+            "refused F17 components/a.xml:3 main",
         ),
     ];
     for (files, want) in rows {
         let found = answer(&rt, rt.alloc(), files)?;
         assert!(rt; found.as_str() == want, "{found} {want}");
+    }
+    Ok(())
+}
+
+#[test]
+fn each_half_enters_the_gate_once(rt: HostRuntime) -> Result<(), Fail> {
+    let folders: [&[Row]; 5] = [
+        &[],
+        &[MANIFEST],
+        &[MANIFEST, MAIN],
+        &[MANIFEST, ("source/a.brs", "/"), ("source/b.brs", "/")],
+        &[("manifest", "="), ("source/a.brs", "/")],
+    ];
+    for files in folders {
+        let found = entries(&rt, rt.alloc(), files)?;
+        assert!(rt; found == (1, 1), "{files:?}");
     }
     Ok(())
 }

@@ -1,12 +1,13 @@
 //! Small folders, and what their check answers.
 use chan_values::{Bytes, FolderFault, Text};
-use channel_folder::{CheckAnswer, NoGate, check_folder};
+use channel_folder::{CheckAnswer, Gate, NoGate, check_folder};
 use folder_files::{FolderAnswer, read_folder};
 use outside::calls::Calls;
 use outside::files::FileBytes;
 use outside::memory_files::MemoryFiles;
 use outside::refusal::write_fault;
 use std::alloc::Global;
+use std::sync::atomic::{AtomicU64, Ordering};
 use std::test::Fail;
 use std::thread::Threads;
 
@@ -48,9 +49,14 @@ fn refusal(alloc: Global, fault: &FolderFault) -> Result<String, Fail> {
     }
 }
 
-fn answer_of<R: Threads>(rt: &R, alloc: Global, mut files: MemoryFiles) -> Result<String, Fail> {
+fn answer_of<R: Threads, G: Gate>(
+    rt: &R,
+    alloc: Global,
+    mut files: MemoryFiles,
+    gate: &G,
+) -> Result<String, Fail> {
     match read_folder(alloc, &mut files, "r") {
-        Ok(listing) => match check_folder(rt, alloc, &listing, &NoGate) {
+        Ok(listing) => match check_folder(rt, alloc, &listing, gate) {
             Ok(_) => Ok(String::from_str(alloc, "good")?),
             Err(CheckAnswer::Fault(fault)) => refusal(alloc, &fault),
             Err(CheckAnswer::NoMemory) => Ok(String::from_str(alloc, "no memory")?),
@@ -60,10 +66,50 @@ fn answer_of<R: Threads>(rt: &R, alloc: Global, mut files: MemoryFiles) -> Resul
     }
 }
 
-/// What the check of a folder of these files says: `good`, or the refusal.
-pub(crate) fn answer<R: Threads>(rt: &R, alloc: Global, rows: &[Row]) -> Result<String, Fail> {
+fn answer_behind<R: Threads, G: Gate>(
+    rt: &R,
+    alloc: Global,
+    rows: &[Row],
+    gate: &G,
+) -> Result<String, Fail> {
     match files_of(alloc, rows)? {
-        Some(files) => answer_of(rt, alloc, files),
+        Some(files) => answer_of(rt, alloc, files, gate),
         None => Ok(String::from_str(alloc, "out of order")?),
     }
+}
+
+/// What the check of a folder of these files says: `good`, or the refusal.
+pub(crate) fn answer<R: Threads>(rt: &R, alloc: Global, rows: &[Row]) -> Result<String, Fail> {
+    answer_behind(rt, alloc, rows, &NoGate)
+}
+
+/// A gate that counts how often each half enters it.
+#[derive(Drop)]
+struct CountingGate {
+    first: AtomicU64,
+    second: AtomicU64,
+}
+
+impl Gate for CountingGate {
+    fn enter(&self, half: u8) {
+        let count = if half == 0 { &self.first } else { &self.second };
+        let _ = count.fetch_add(1, Ordering::SeqCst);
+    }
+}
+
+/// How often each half of these files enters the gate.
+pub(crate) fn entries<R: Threads>(
+    rt: &R,
+    alloc: Global,
+    rows: &[Row],
+) -> Result<(u64, u64), Fail> {
+    let gate = CountingGate {
+        first: AtomicU64::new(0),
+        second: AtomicU64::new(0),
+    };
+    let _ = answer_behind(rt, alloc, rows, &gate)?;
+    Ok((
+        gate.first.load(Ordering::SeqCst),
+        gate.second.load(Ordering::SeqCst),
+    ))
 }
