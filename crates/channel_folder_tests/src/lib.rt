@@ -7,3 +7,5 @@
 mod folder_tests;
 #[cfg(test)]
 mod folders;
+#[cfg(test)]
+mod kind_tests;
