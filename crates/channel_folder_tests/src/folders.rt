@@ -98,11 +98,7 @@ impl Gate for CountingGate {
 }
 
 /// How often each half of these files enters the gate.
-pub(crate) fn entries<R: Threads>(
-    rt: &R,
-    alloc: Global,
-    rows: &[Row],
-) -> Result<(u64, u64), Fail> {
+pub(crate) fn entries<R: Threads>(rt: &R, alloc: Global, rows: &[Row]) -> Result<(u64, u64), Fail> {
     let gate = CountingGate {
         first: AtomicU64::new(0),
         second: AtomicU64::new(0),

@@ -26,7 +26,10 @@ fn a_source_file_has_the_line_of_its_fault(rt: HostRuntime) -> Result<(), Fail> 
             "sub main()\nx = 1.5\nend sub\n",
             "refused F5 source/main.brs:2:5 FloatLiteral",
         ),
-        ("sub main()\na.b\nend sub\n", "refused F6 source/main.brs:2:4"),
+        (
+            "sub main()\na.b\nend sub\n",
+            "refused F6 source/main.brs:2:4",
+        ),
         (
             "sub main()\nexit for\nend sub\n",
             "refused F7 source/main.brs:2:1 ExitOutsideLoop",
@@ -46,7 +49,11 @@ fn is_refused_component<R: Threads>(
     component: &'static str,
     want: &str,
 ) -> Result<bool, Fail> {
-    let found = answer(rt, alloc, &[("components/a.xml", component), MANIFEST, MAIN])?;
+    let found = answer(
+        rt,
+        alloc,
+        &[("components/a.xml", component), MANIFEST, MAIN],
+    )?;
     Ok(found.as_str() == want)
 }
 
@@ -57,7 +64,10 @@ fn a_component_has_the_line_of_its_fault(rt: HostRuntime) -> Result<(), Fail> {
             "<component name=\"A\">\n<label/>\n</component>\n",
             "refused F8 components/a.xml:2",
         ),
-        ("<component name=\"Group\"></component>\n", "refused F9 components/a.xml:1 group"),
+        (
+            "<component name=\"Group\"></component>\n",
+            "refused F9 components/a.xml:1 group",
+        ),
         (
             "<component name=\"A\" extends=\"Nope\"></component>\n",
             "refused F10 components/a.xml:1 nope",
@@ -92,7 +102,10 @@ fn a_component_has_the_line_of_its_fault(rt: HostRuntime) -> Result<(), Fail> {
         ),
     ];
     for (component, want) in rows {
-        assert!(rt; is_refused_component(&rt, rt.alloc(), component, want)?, "{want}");
+        assert!(rt;
+            is_refused_component(&rt, rt.alloc(), component, want)?,
+            "{want}"
+        );
     }
     Ok(())
 }
@@ -101,7 +114,10 @@ fn a_component_has_the_line_of_its_fault(rt: HostRuntime) -> Result<(), Fail> {
 fn the_files_of_a_folder_have_the_line_of_their_fault(rt: HostRuntime) -> Result<(), Fail> {
     let rows: [(&[Row], &str); 3] = [
         (&[MAIN], "refused F3"),
-        (&[("manifest", "title=a\nversion\n"), MAIN], "refused F4 manifest:2"),
+        (
+            &[("manifest", "title=a\nversion\n"), MAIN],
+            "refused F4 manifest:2",
+        ),
         (
             &[
                 MANIFEST,

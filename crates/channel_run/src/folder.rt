@@ -58,9 +58,7 @@ fn first_source(files: &[FileBytes]) -> Option<&Bytes>
     match files {
         [manifest, source]
             if manifest.path.as_str() == "manifest" && source.path.as_str() == "source/main.brs" =>
-        {
-            Some(&source.bytes)
-        }
+            { Some(&source.bytes) }
         _ => None,
     }
 }

@@ -40,25 +40,32 @@ fn a_folder_without_a_fault_is_good(rt: HostRuntime) -> Result<(), Fail> {
     let alloc = rt.alloc();
     for contents in &GOOD_FOLDERS {
         assert!(rt;
-            comes_to(&rt, alloc, "check|F", contents, "no script", (0, "", "good\n"))?,
+            comes_to(
+                &rt,
+                alloc,
+                "check|F",
+                contents,
+                "no script",
+                (0, "", "good\n")
+            )?,
             "{contents:?}"
         );
     }
     Ok(())
 }
 
-static REFUSED_FOLDERS: [(&[Row<'static>], &str); 9] = [
+static REFUSED_FOLDERS: [(&[Row<'static>], &str); 10] = [
     (&[], "refused F3\n"),
-    (&[("F/manifest", "title\n"), MAIN], "refused F4 manifest:1\n"),
+    (
+        &[("F/manifest", "title\n"), MAIN],
+        "refused F4 manifest:1\n",
+    ),
     (&[MANIFEST], "refused F19\n"),
     (&[MANIFEST, ("F/source/main.brs", "")], "refused F19\n"),
     (
         &[
             MANIFEST,
-            (
-                "F/source/a.brs",
-                "sub main()\n\n\n\n\n\n\n\na.b\nend sub\n",
-            ),
+            ("F/source/a.brs", "sub main()\n\n\n\n\n\n\n\na.b\nend sub\n"),
             ("F/source/b.brs", "/"),
         ],
         "refused F6 source/a.brs:9:4\n",
@@ -93,6 +100,21 @@ static REFUSED_FOLDERS: [(&[Row<'static>], &str); 9] = [
             MAIN,
         ],
         "refused F10 components/a.xml:1 nope\n",
+    ),
+    (
+        &[
+            (
+                "F/components/home.brs",
+                "sub headingChange()\n  print m.top.heading\nend sub\n",
+            ),
+            (
+                "F/components/home.xml",
+                "<component name=\"Home\" extends=\"Scene\">\n  <script uri=\"home.brs\" />\n  <interface>\n    <field id=\"heading\" type=\"string\" onChange=\"headingChanged\" />\n  </interface>\n</component>\n",
+            ),
+            MANIFEST,
+            MAIN,
+        ],
+        "refused F17 components/home.xml:4 headingchanged\n",
     ),
 ];
 

@@ -84,11 +84,7 @@ fn add(files: &mut MemoryFiles, path: &str, content: &str) -> Option<bool> {
     }
 }
 
-fn folder(
-    alloc: Global,
-    contents: &[Row],
-    failing: Option<u64>,
-) -> Result<MemoryFiles, Fail> {
+fn folder(alloc: Global, contents: &[Row], failing: Option<u64>) -> Result<MemoryFiles, Fail> {
     let mut files = MemoryFiles::new(alloc, calls(alloc, failing)?);
     for (path, content) in contents {
         if add(&mut files, path, content) != Some(true) {
