@@ -1,4 +1,5 @@
 pub mod FileTurns
+pub mod FileParts
 pub mod FolderKinds
 pub mod OneFault
 pub mod SourceSizes

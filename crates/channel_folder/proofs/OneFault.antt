@@ -62,14 +62,14 @@ hold_one laws (file ∷ files) a b (h, more, (is, are, e)) (k, others, (also, to
 first_one : FileLaws → (files : List FileBytes) (a b : FolderFault) → IsFirstOfFiles files a → IsFirstOfFiles files b → a ≡ b
 first_one laws [] a b e d = absurd e
 first_one laws (file ∷ files) a b (inl x) (inl y) = fault_one laws (kind_of file.path) file a b x y
-first_one laws (file ∷ files) a b (inl x) (inr (h, is, y)) = absurd (never_both laws (kind_of file.path) file h a is x)
-first_one laws (file ∷ files) a b (inr (h, is, x)) (inl y) = absurd (never_both laws (kind_of file.path) file h b is y)
-first_one laws (file ∷ files) a b (inr (h, is, x)) (inr (k, also, y)) = first_one laws files a b x y
+first_one laws (file ∷ files) a b (inl x) (inr (h, (is, y))) = absurd (never_both laws (kind_of file.path) file h a is x)
+first_one laws (file ∷ files) a b (inr (h, (is, x))) (inl y) = absurd (never_both laws (kind_of file.path) file h b is y)
+first_one laws (file ∷ files) a b (inr (h, (is, x))) (inr (k, (also, y))) = first_one laws files a b x y
 
 good_or_first : FileLaws → (files : List FileBytes) (a : Contents) (b : FolderFault) → Hold files a → IsFirstOfFiles files b → ⊥
 good_or_first laws [] a b hold e = e
 good_or_first laws (file ∷ files) a b (h, more, (is, are, e)) (inl y) = never_both laws (kind_of file.path) file h b is y
-good_or_first laws (file ∷ files) a b (h, more, (is, are, e)) (inr (k, also, y)) = good_or_first laws files more b are y
+good_or_first laws (file ∷ files) a b (h, more, (is, are, e)) (inr (k, (also, y))) = good_or_first laws files more b are y
 
 -- ---- components
 

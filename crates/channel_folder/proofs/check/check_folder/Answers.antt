@@ -9,11 +9,11 @@ use Rattle.channel_folder.proofs.OneFault.{finds_the_one}
 use Rattle.channel_folder.proofs.check.check_folder.Goals as goal
 
 pub returns-clause-few : goal.returns-clause-few
-returns-clause-few c =
+returns-clause-few g c =
     let hold = subst (λ fs. IfOk c.channel_of.result (Hold fs)) c.as_slice.ensures.files c.channel_of.ensures.held in
     few_in c.args.listing.now c.channel_of.result (c.few_functions.ensures c.args.listing.now) c.requires.sizes hold
 
 pub returns-clause-all : goal.returns-clause-all
-returns-clause-all c found is =
+returns-clause-all g c found is =
     let first = subst (λ fs. Finds (IsFirstFault fs) c.channel_of.result) c.as_slice.ensures.files c.channel_of.ensures.first in
     finds_the_one Contents c.args.listing.now c.channel_of.result (c.one_first_fault.ensures c.args.listing.now) first found is
