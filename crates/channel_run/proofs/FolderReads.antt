@@ -3,7 +3,7 @@ use Rattle.std.proofs.Common.{◌≡◌, ℕ, Bool, true, false, ◌<◌, ◌≤
 use Rattle.std.specs.Option.{ForSome}
 use Rattle.std.specs.Str.{bytes_eq}
 use Rattle.outside.specs.declared.files.FileBytes.{FileBytes}
-use Rattle.outside.specs.declared.status.Status.TheVariants.{Refused}
+use Rattle.outside.specs.declared.status.Status.TheVariants.{Done, Refused}
 use Rattle.outside.specs.declared.status.Status.{Status}
 use Rattle.chan_values.specs.declared.folder_fault.FolderFault.{FolderFault}
 use Rattle.folder_files.specs.Below.{files_below}
@@ -13,8 +13,10 @@ use Rattle.channel_folder.specs.FolderFaults.{IsFirstFault}
 use Rattle.channel_folder.proofs.FileTurns.{short_at}
 use Rattle.channel_run.specs.Command.{Command}
 use Rattle.channel_run.specs.FirstFolder.{first_source}
-use Rattle.channel_run.specs.Refusal.{refusal_line}
-use Rattle.channel_run.specs.Written.{ForGood, ForFound, ForCommand}
+use Rattle.channel_run.specs.Refusal.{refusal_line, refused_for}
+use Rattle.channel_run.specs.Written.{ForGood, ForFound, ForCommand, good_line}
+use Rattle.channel_run.specs.declared.command.Work.{Work}
+use Rattle.channel_run.specs.declared.command.Work.TheVariants.{Check, Run}
 
 chosen : (t : Bool) (a b : List ℕ) → (if t then Some a else None) ≡ Some b → a ≡ b
 chosen true a b e = cc
@@ -46,3 +48,23 @@ for_good one command files input listing P told holds map found is first =
     let t = told map is in
     subst (λ o. ForFound command.work (files_below command.root map) o input P) (one (files_below command.root map) None found t.1 first)
     (subst (λ fs. ForGood command.work fs input P) t.0 holds)
+
+-- ---- what is done with files without a fault
+
+pub checked : (work : Work) (files : List FileBytes) (input : Option (List ℕ)) (P : Status → List ℕ → Type 0) → work ≡ Check → P Done good_line → ForGood work files input P
+checked work files input P is holds = subst (λ w. ForGood w files input P) (sym is) holds
+
+pub ran : (work : Work) (bound : ℕ) (read files : List FileBytes) (input : Option (List ℕ)) (P : Status → List ℕ → Type 0) → work ≡ Run bound → read ≡ files
+    → ForGood (Run bound) read input P → ForGood work files input P
+ran work bound read files input P is same holds = subst (λ w. ForGood w files input P) (sym is) (subst (λ fs. ForGood (Run bound) fs input P) same holds)
+
+-- ---- for what a folder is refused
+
+pub refused_told : (files : Option (List FileBytes)) (root : List ℕ) (status : Status) (fault : FolderFault) → ForSome files (λ m. IsFirstFault (files_below root m) (Some fault))
+    → status ≡ Refused fault → ForSome files (λ m. IsFirstFault (files_below root m) (refused_for status))
+refused_told files root status fault told same map is = subst (λ s. IsFirstFault (files_below root map) (refused_for s)) (sym same) (told map is)
+
+pub good_told : (files : Option (List FileBytes)) (root : List ℕ) (listing : List FileBytes) (status : Status)
+    → ForSome files (λ m. (listing ≡ files_below root m) × IsFirstFault (files_below root m) None) → refused_for status ≡ None
+    → ForSome files (λ m. IsFirstFault (files_below root m) (refused_for status))
+good_told files root listing status told none map is = subst (IsFirstFault (files_below root map)) (sym none) (told map is).1
