@@ -1,5 +1,5 @@
 -- What is known of the files of a folder without a fault.
-use Rattle.std.proofs.Common.{◌≡◌, ℕ, Bool, true, false, ◌<◌, ◌≤◌, ◌&&◌, List, [], ◌∷◌, length, Option, None, Some, IfSome, codes, if◌then◌else◌, refl, sym, ap, ◌∙◌, subst, arith}
+use Rattle.std.proofs.Common.{◌≡◌, ℕ, Bool, true, false, ◌<◌, ◌≤◌, ◌&&◌, List, [], ◌∷◌, length, Option, None, Some, Err, codes, if◌then◌else◌, refl, sym, ap, ◌∙◌, subst, arith}
 use Rattle.std.specs.Option.{ForSome}
 use Rattle.std.specs.Str.{bytes_eq}
 use Rattle.outside.specs.declared.files.FileBytes.{FileBytes}
@@ -7,13 +7,15 @@ use Rattle.outside.specs.declared.status.Status.TheVariants.{Done, Refused}
 use Rattle.outside.specs.declared.status.Status.{Status}
 use Rattle.chan_values.specs.declared.folder_fault.FolderFault.{FolderFault}
 use Rattle.folder_files.specs.Below.{files_below}
+use Rattle.folder_files.specs.declared.answer.FolderAnswer.{FolderAnswer}
+use Rattle.folder_files.specs.declared.answer.FolderAnswer.TheVariants.{Fault}
 use Rattle.folder_files.specs.SizeFaults.{first_size_fault}
 use Rattle.folder_files.proofs.BadLines.{none_long}
 use Rattle.channel_folder.specs.FolderFaults.{IsFirstFault}
 use Rattle.channel_folder.proofs.FileTurns.{short_at}
 use Rattle.channel_run.specs.Command.{Command}
 use Rattle.channel_run.specs.FirstFolder.{first_source}
-use Rattle.channel_run.specs.Refusal.{refusal_line, refused_for}
+use Rattle.channel_run.specs.Refusal.{ChecksAs, refusal_line, refused_for}
 use Rattle.channel_run.specs.Written.{ForGood, ForFound, ForCommand, good_line}
 use Rattle.channel_run.specs.declared.command.Work.{Work}
 use Rattle.channel_run.specs.declared.command.Work.TheVariants.{Check, Run}
@@ -59,6 +61,10 @@ pub ran : (work : Work) (bound : ℕ) (read files : List FileBytes) (input : Opt
 ran work bound read files input P is same holds = subst (λ w. ForGood w files input P) (sym is) (subst (λ fs. ForGood (Run bound) fs input P) same holds)
 
 -- ---- for what a folder is refused
+
+pub refused_by : (files : Option (List FileBytes)) (root : List ℕ) (answer : FolderAnswer) (fault : FolderFault) → answer ≡ Fault fault
+    → ForSome files (λ m. ChecksAs (files_below root m) (Err answer)) → ForSome files (λ m. IsFirstFault (files_below root m) (Some fault))
+refused_by files root answer fault same told map is = subst (λ a. ChecksAs (files_below root map) (Err a)) same (told map is)
 
 pub refused_told : (files : Option (List FileBytes)) (root : List ℕ) (status : Status) (fault : FolderFault) → ForSome files (λ m. IsFirstFault (files_below root m) (Some fault))
     → status ≡ Refused fault → ForSome files (λ m. IsFirstFault (files_below root m) (refused_for status))
