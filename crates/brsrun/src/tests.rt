@@ -205,7 +205,7 @@ fn a_status_is_told_in_one_line(rt: HostRuntime) -> Result<(), Fail> {
         (Status::ReadFault, "brsrun: read fault\n"),
         (Status::WriteFault, "brsrun: write fault\n"),
         (Status::DoorFault, "brsrun: door fault\n"),
-        (Status::BadWords, "brsrun: usage: run F N\n"),
+        (Status::BadWords, "brsrun: usage: check F | run F N\n"),
         (Status::NoMemory, "brsrun: no memory\n"),
         (Status::NotYet, "brsrun: not yet\n"),
     ];

@@ -1,76 +1,76 @@
--- What a listing of two files says of the folder.
-use Rattle.std.proofs.Common.{◌≡◌, ℕ, Bool, true, false, ◌<◌, ◌&&◌, List, [], ◌∷◌, length, get_or, Option, None, Some, IsSome, codes, if◌then◌else◌, refl, sym, ap, ◌∙◌, subst, arith}
-use Rattle.std.proofs.lemmas.Slice.Eq.{bytes_eq-Decides}
+-- What is known of the files of a folder without a fault.
+use Rattle.std.proofs.Common.{◌≡◌, ℕ, Bool, true, false, ◌<◌, ◌≤◌, ◌&&◌, List, [], ◌∷◌, length, Option, None, Some, Err, codes, if◌then◌else◌, refl, sym, ap, ◌∙◌, subst, arith}
 use Rattle.std.specs.Option.{ForSome}
 use Rattle.std.specs.Str.{bytes_eq}
 use Rattle.outside.specs.declared.files.FileBytes.{FileBytes}
-use Rattle.outside.specs.declared.files.FileRead.{FileRead}
-use Rattle.outside.specs.Folder.{whole_path, paths_below, content_of, read_of}
-use Rattle.outside.proofs.Listed.{listed_is_readable}
-use Rattle.channel_run.specs.FirstFiles.{is_first_listing, held_by, two_files}
-use Rattle.channel_run.specs.declared.folder.TwoFiles.{TwoFiles}
+use Rattle.outside.specs.declared.status.Status.TheVariants.{Done, Refused}
+use Rattle.outside.specs.declared.status.Status.{Status}
+use Rattle.chan_values.specs.declared.folder_fault.FolderFault.{FolderFault}
+use Rattle.folder_files.specs.Below.{files_below}
+use Rattle.folder_files.specs.declared.answer.FolderAnswer.{FolderAnswer}
+use Rattle.folder_files.specs.declared.answer.FolderAnswer.TheVariants.{Fault}
+use Rattle.folder_files.specs.SizeFaults.{first_size_fault}
+use Rattle.folder_files.proofs.BadLines.{none_long}
+use Rattle.channel_folder.specs.FolderFaults.{IsFirstFault}
+use Rattle.channel_folder.proofs.FileTurns.{short_at}
+use Rattle.channel_run.specs.Command.{Command}
+use Rattle.channel_run.specs.FirstFolder.{first_source}
+use Rattle.channel_run.specs.Refusal.{ChecksAs, refusal_line, refused_for}
+use Rattle.channel_run.specs.Written.{ForGood, ForFound, ForCommand, good_line}
+use Rattle.channel_run.specs.declared.command.Work.{Work}
+use Rattle.channel_run.specs.declared.command.Work.TheVariants.{Check, Run}
 
-both : (a b : Bool) → (a && b) ≡ true → (a ≡ true) × (b ≡ true)
-both true b e = (refl, e)
-both false b e = cc
+chosen : (t : Bool) (a b : List ℕ) → (if t then Some a else None) ≡ Some b → a ≡ b
+chosen true a b e = cc
+chosen false a b e = absurd (cc)
 
-first_listing : (paths : List (List ℕ)) → is_first_listing paths ≡ true → paths ≡ codes "manifest" ∷ codes "source/main.brs" ∷ []
-first_listing [] e = cc
-first_listing (a ∷ []) e = cc
-first_listing (a ∷ b ∷ []) e =
-    let p = both (bytes_eq a (codes "manifest")) (bytes_eq b (codes "source/main.brs")) e in
-    let one : a ≡ codes "manifest" = (bytes_eq-Decides a (codes "manifest")).0 p.0 in
-    let two : b ≡ codes "source/main.brs" = (bytes_eq-Decides b (codes "source/main.brs")).0 p.1 in
-    ap (λ x. x ∷ b ∷ []) one ∙ ap (λ y. codes "manifest" ∷ y ∷ []) two
-first_listing (a ∷ b ∷ c ∷ paths) e = cc
+-- Main's file has at most 1,048,576 bytes
+pub short_source : (files : List FileBytes) (bytes : List ℕ) → first_size_fault files ≡ None → first_source files ≡ Some bytes → length bytes ≤ 1048576
+short_source [] bytes none is = absurd (cc)
+short_source (m ∷ []) bytes none is = absurd (cc)
+short_source (m ∷ s ∷ []) bytes none is =
+    let same = chosen (bytes_eq m.path (codes "manifest") && bytes_eq s.path (codes "source/main.brs")) s.bytes bytes is in
+    subst (λ (b : List ℕ). length b ≤ 1048576) same (short_at (m ∷ s ∷ []) 1 s (none_long (m ∷ s ∷ []) none) (omega arith) refl)
+short_source (m ∷ s ∷ (f ∷ files)) bytes none is = absurd (cc)
 
--- a folder that lists these two files
-abbrev pub ListsTwo : Option (List FileBytes) → List ℕ → List (List ℕ) → Type 0
-ListsTwo map root paths = ForSome map (λ m. paths ≡ paths_below root m)
+-- a folder has at most one first fault
+abbrev pub OneFirst : Type 0
+OneFirst = (files : List FileBytes) (a b : Option FolderFault) → IsFirstFault files a → IsFirstFault files b → a ≡ b
 
-pub manifest_is_there : (map : Option (List FileBytes)) (root : List ℕ) (paths : List (List ℕ)) → ListsTwo map root paths → is_first_listing paths ≡ true
-    → ForSome map (λ m. IsSome (content_of m (whole_path root (codes "manifest"))))
-manifest_is_there map root paths told first =
-    let is = first_listing paths first in
-    listed_is_readable map root paths 0 (codes "manifest") told (subst (λ ps. 0 < length ps) (sym is) (omega arith)) (ap (λ ps. get_or ps 0 (codes "manifest")) is)
+-- what holds of the refusal of a folder with a fault holds of the command
+pub for_refused : OneFirst → (command : Command) (files : Option (List FileBytes)) (input : Option (List ℕ)) (fault : FolderFault) (P : Status → List ℕ → Type 0)
+    → ForSome files (λ m. IsFirstFault (files_below command.root m) (Some fault)) → P (Refused fault) (refusal_line fault) → ForCommand command files input P
+for_refused one command files input fault P told holds map found is first =
+    subst (λ o. ForFound command.work (files_below command.root map) o input P) (one (files_below command.root map) (Some fault) found (told map is) first) holds
 
-pub source_is_there : (map : Option (List FileBytes)) (root : List ℕ) (paths : List (List ℕ)) → ListsTwo map root paths → is_first_listing paths ≡ true
-    → ForSome map (λ m. IsSome (content_of m (whole_path root (codes "source/main.brs"))))
-source_is_there map root paths told first =
-    let is = first_listing paths first in
-    listed_is_readable map root paths 1 (codes "source/main.brs") told (subst (λ ps. 1 < length ps) (sym is) (omega arith)) (ap (λ ps. get_or ps 1 (codes "source/main.brs")) is)
+-- what holds of the files of a folder without a fault holds of the command
+pub for_good : OneFirst → (command : Command) (files : Option (List FileBytes)) (input : Option (List ℕ)) (listing : List FileBytes) (P : Status → List ℕ → Type 0)
+    → ForSome files (λ m. (listing ≡ files_below command.root m) × IsFirstFault (files_below command.root m) None) → ForGood command.work listing input P → ForCommand command files input P
+for_good one command files input listing P told holds map found is first =
+    let t = told map is in
+    subst (λ o. ForFound command.work (files_below command.root map) o input P) (one (files_below command.root map) None found t.1 first)
+    (subst (λ fs. ForGood command.work fs input P) t.0 holds)
 
--- the same of files whose map is this one still
-pub manifest_still_there : (map now : Option (List FileBytes)) (root : List ℕ) (paths : List (List ℕ)) → now ≡ map → ListsTwo map root paths → is_first_listing paths ≡ true
-    → ForSome now (λ m. IsSome (content_of m (whole_path root (codes "manifest"))))
-manifest_still_there map now root paths same told first =
-    subst (λ o. ForSome o (λ m. IsSome (content_of m (whole_path root (codes "manifest"))))) (sym same) (manifest_is_there map root paths told first)
+-- ---- what is done with files without a fault
 
-pub source_still_there : (map now : Option (List FileBytes)) (root : List ℕ) (paths : List (List ℕ)) → now ≡ map → ListsTwo map root paths → is_first_listing paths ≡ true
-    → ForSome now (λ m. IsSome (content_of m (whole_path root (codes "source/main.brs"))))
-source_still_there map now root paths same told first =
-    subst (λ o. ForSome o (λ m. IsSome (content_of m (whole_path root (codes "source/main.brs"))))) (sym same) (source_is_there map root paths told first)
+pub checked : (work : Work) (files : List FileBytes) (input : Option (List ℕ)) (P : Status → List ℕ → Type 0) → work ≡ Check → P Done good_line → ForGood work files input P
+checked work files input P is holds = subst (λ w. ForGood w files input P) (sym is) holds
 
-abbrev two_of : FileRead → FileRead → Option TwoFiles
-two_of manifest source = Some (record { manifest = manifest; source = source })
+pub ran : (work : Work) (bound : ℕ) (read files : List FileBytes) (input : Option (List ℕ)) (P : Status → List ℕ → Type 0) → work ≡ Run bound → read ≡ files
+    → ForGood (Run bound) read input P → ForGood work files input P
+ran work bound read files input P is same holds = subst (λ w. ForGood w files input P) (sym is) (subst (λ fs. ForGood (Run bound) fs input P) same holds)
 
--- a file as it is read from the folder
-abbrev pub Holds : Option (List FileBytes) → List ℕ → List ℕ → FileRead → Type 0
-Holds map root path read = ForSome map (λ m. read ≡ read_of 65536 (held_by root m path))
+-- ---- for what a folder is refused
 
-chosen : (root : List ℕ) (m : List FileBytes) (b : Bool) → is_first_listing (paths_below root m) ≡ b
-    → two_files root m ≡ (if b then two_of (read_of 65536 (held_by root m (codes "manifest"))) (read_of 65536 (held_by root m (codes "source/main.brs"))) else None)
-chosen root m b is =
-    ap (λ (t : Bool). if t then two_of (read_of 65536 (held_by root m (codes "manifest"))) (read_of 65536 (held_by root m (codes "source/main.brs"))) else None) is
+pub refused_by : (files : Option (List FileBytes)) (root : List ℕ) (answer : FolderAnswer) (fault : FolderFault) → answer ≡ Fault fault
+    → ForSome files (λ m. ChecksAs (files_below root m) (Err answer)) → ForSome files (λ m. IsFirstFault (files_below root m) (Some fault))
+refused_by files root answer fault same told map is = subst (λ a. ChecksAs (files_below root map) (Err a)) same (told map is)
 
-pub two_told : (map one two : Option (List FileBytes)) (root : List ℕ) (paths : List (List ℕ)) (manifest source : FileRead) → one ≡ map → two ≡ one
-    → ListsTwo map root paths → is_first_listing paths ≡ true → Holds one root (codes "manifest") manifest → Holds two root (codes "source/main.brs") source
-    → ForSome map (λ m. Some (record { manifest = manifest; source = source }) ≡ two_files root m)
-two_told map one two root paths manifest source same_one same_two told first a b m is =
-    let here = ap is_first_listing (sym (told m is)) ∙ first in
-    ap (λ x. two_of x source) (a m (same_one ∙ is)) ∙ ap (two_of (read_of 65536 (held_by root m (codes "manifest")))) (b m (same_two ∙ same_one ∙ is))
-    ∙ sym (chosen root m true here)
+pub refused_told : (files : Option (List FileBytes)) (root : List ℕ) (status : Status) (fault : FolderFault) → ForSome files (λ m. IsFirstFault (files_below root m) (Some fault))
+    → status ≡ Refused fault → ForSome files (λ m. IsFirstFault (files_below root m) (refused_for status))
+refused_told files root status fault told same map is = subst (λ s. IsFirstFault (files_below root map) (refused_for s)) (sym same) (told map is)
 
-pub others_told : (map : Option (List FileBytes)) (root : List ℕ) (paths : List (List ℕ)) → ListsTwo map root paths → is_first_listing paths ≡ false
-    → ForSome map (λ m. None ≡ two_files root m)
-others_told map root paths told other m is = sym (chosen root m false (ap is_first_listing (sym (told m is)) ∙ other))
+pub good_told : (files : Option (List FileBytes)) (root : List ℕ) (listing : List FileBytes) (status : Status)
+    → ForSome files (λ m. (listing ≡ files_below root m) × IsFirstFault (files_below root m) None) → refused_for status ≡ None
+    → ForSome files (λ m. IsFirstFault (files_below root m) (refused_for status))
+good_told files root listing status told none map is = subst (IsFirstFault (files_below root map)) (sym none) (told map is).1

@@ -43,7 +43,7 @@ run_text (Some main) script bound = first_text main script bound
 -- the answers at which the whole text was written
 abbrev pub IsThrough : Status → Type 0
 IsThrough status.Done = Unit {0}
-IsThrough (status.Refused fault) = ⊥
+IsThrough (status.Refused fault) = Unit {0}
 IsThrough status.ChannelError = ⊥
 IsThrough (status.BadScript line) = Unit {0}
 IsThrough status.ReadFault = ⊥

@@ -1,23 +1,16 @@
 -- Which folders are of the first form.
-use Rattle.std.specs.Prelude.{ℕ, List, Option, None, option_and_then, if◌then◌else◌}
+use Rattle.std.specs.Prelude.{ℕ, ◌&&◌, List, [], ◌∷◌, codes, Option, None, Some, option_and_then, if◌then◌else◌}
+use Rattle.std.specs.Str.{bytes_eq}
 use Rattle.outside.specs.declared.files.FileBytes.{FileBytes}
-use Rattle.outside.specs.declared.files.FileRead.{FileRead}
-use Rattle.outside.specs.declared.files.FileRead.TheVariants.{Whole, Longer}
 use Rattle.first_form.specs.declared.tree.FirstMain.{FirstMain}
-use Rattle.channel_run.specs.declared.folder.TwoFiles.{TwoFiles}
-use Rattle.channel_run.specs.FirstFiles.{two_files}
 use Rattle.first_form.specs.FirstSource.{first_main_of}
-use Rattle.folder_files.specs.Manifest.{is_good_manifest}
 
--- the tree of a folder's Main, where its manifest has no bad line and neither file is too long
-abbrev pub first_in : FileRead → FileRead → Option FirstMain
-first_in (Whole manifest) (Whole source) = if is_good_manifest manifest then first_main_of source else None
-first_in (Whole manifest) Longer = None
-first_in Longer source = None
-
-abbrev pub first_of_files : TwoFiles → Option FirstMain
-first_of_files two = first_in two.manifest two.source
+-- what Main's file holds, where the files are a manifest and this one
+abbrev pub first_source : List FileBytes → Option (List ℕ)
+first_source (manifest ∷ source ∷ []) =
+    if bytes_eq manifest.path (codes "manifest") && bytes_eq source.path (codes "source/main.brs") then Some source.bytes else None
+first_source files = None
 
 -- the tree of the Main of a folder of the first form
-abbrev pub first_folder : List ℕ → List FileBytes → Option FirstMain
-first_folder root files = option_and_then first_of_files (two_files root files)
+abbrev pub first_folder : List FileBytes → Option FirstMain
+first_folder files = option_and_then first_main_of (first_source files)

@@ -1,7 +1,6 @@
 pub mod Answer
 pub mod Command
 pub mod Decimal
-pub mod FirstFiles
 pub mod FirstFolder
 pub mod FirstLines
 pub mod FirstLocals
@@ -9,6 +8,7 @@ pub mod FirstMeaning
 pub mod FirstText
 pub mod Input
 pub mod Output
+pub mod Refusal
 pub mod Script
 pub mod Status
 pub mod Written

@@ -15,10 +15,10 @@ abbrev pub NoneRose : Counts → Counts → Type 0
 NoneRose before now = (now.files ≡ before.files) × (now.input ≡ before.input) × (now.sink ≡ before.sink)
 
 -- a read fault comes where the count of the files or of the input rose, a write fault where that of the sink did, and no other
--- answer where one rose; the folder is not refused, the channel has no error and the door no fault
+-- answer where one rose; the channel has no error and the door no fault
 abbrev pub IsCaused : Status → Counts → Counts → Type 0
 IsCaused Done before now = NoneRose before now
-IsCaused (Refused fault) before now = ⊥
+IsCaused (Refused fault) before now = NoneRose before now
 IsCaused ChannelError before now = ⊥
 IsCaused (BadScript line) before now = NoneRose before now
 IsCaused ReadFault before now =

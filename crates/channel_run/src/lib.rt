@@ -1,7 +1,8 @@
-//! The top call: a channel folder and a script are read, and the transcript of the run is written.
+//! The top call: a channel folder is checked, or run under a script, and its refusal or its transcript is written.
 #![tactic(auto)]
 
 mod command;
+mod commands;
 mod decimal;
 pub mod first_laws;
 mod first_run;
@@ -11,4 +12,4 @@ mod output;
 mod run;
 mod script;
 
-pub use run::channel_main;
+pub use commands::channel_main;

@@ -4,7 +4,11 @@
 #![tactic(auto)]
 
 #[cfg(test)]
+mod check_tests;
+#[cfg(test)]
 mod door_tests;
+#[cfg(test)]
+mod outcomes;
 #[cfg(test)]
 mod outside_tests;
 #[cfg(test)]

@@ -487,7 +487,7 @@ fn each_status_has_its_number_and_its_text(rt: HostRuntime) {
         (&Status::ReadFault, 4, "read fault"),
         (&Status::WriteFault, 5, "write fault"),
         (&Status::DoorFault, 6, "door fault"),
-        (&Status::BadWords, 7, "usage: run F N"),
+        (&Status::BadWords, 7, "usage: check F | run F N"),
         (&Status::NoMemory, 8, "no memory"),
         (&Status::NotYet, 9, "not yet"),
     ] {

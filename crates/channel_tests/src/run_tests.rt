@@ -1,16 +1,6 @@
 //! What no clause says: whole runs over the forms in memory, and what is called where a call fails.
-ghost use Rattle.std.specs.Prelude.{◌≡◌};
 
-use chan_values::{Bytes, Text};
-use channel_run::channel_main;
-use outside::calls::Calls;
-use outside::door::{Door, DoorState};
-use outside::files::{FileBytes, Files};
-use outside::memory_door::MemoryDoor;
-use outside::memory_files::MemoryFiles;
-use outside::memory_streams::{MemorySink, MemorySource};
-use outside::status::Status;
-use outside::streams::{Sink, Source};
+use crate::outcomes::{Failing, MANIFEST, NONE, Row, comes_to, makes_calls, outcome_of};
 use std::alloc::Global;
 use std::test::Fail;
 use std::thread::Threads;
@@ -21,160 +11,6 @@ const EMPTY: &str = "sub main()\nend sub\n";
 
 const SEVEN: &str = "sub main()\nx = 7\nprint \"x=\"; x; \" \"; x + 2\nend sub\n";
 
-/// How a command ended: its exit status and text, what the sink holds, and the calls made on the files, the input and the sink.
-#[derive(Drop)]
-struct Outcome {
-    status: u8,
-    text: String,
-    written: Bytes,
-    calls: (u64, u64, u64),
-}
-
-/// The calls that are to fail on the files, the input and the sink.
-#[derive(Clone, Copy)]
-struct Failing {
-    files: Option<u64>,
-    input: Option<u64>,
-    sink: Option<u64>,
-}
-
-const NONE: Failing = Failing {
-    files: None,
-    input: None,
-    sink: None,
-};
-
-fn calls(alloc: Global, failing: Option<u64>) -> Result<Calls, Fail> {
-    let mut numbers = Vec::new(alloc);
-    if let Some(number) = failing {
-        numbers.push(number)?;
-    }
-    Ok(Calls::new(numbers))
-}
-
-fn bytes_of(alloc: Global, piece: &str) -> Result<Bytes, Fail> {
-    let mut bytes = Bytes::new(alloc);
-    bytes.push_slice(piece.as_bytes())?;
-    Ok(bytes)
-}
-
-/// The words of a command, which are written with `|` between them.
-fn words_of(alloc: Global, command: &str) -> Result<Vec<String>, Fail> {
-    let mut words = Vec::new(alloc);
-    if !command.is_empty() {
-        for word in command.split('|') {
-            words.push(String::from_str(alloc, word)?)?;
-        }
-    }
-    Ok(words)
-}
-
-/// Adds a file, and answers whether it could be added.
-fn add(files: &mut MemoryFiles, path: &str, content: &str) -> Option<bool> {
-    let mut file = FileBytes {
-        path: Text::new(files.alloc),
-        bytes: Bytes::new(files.alloc),
-    };
-    file.path.push_str(path).ok()?;
-    file.bytes.push_slice(content.as_bytes()).ok()?;
-    if files.may_push(file.path.as_str()) {
-        Some(files.push(file).is_ok())
-    } else {
-        Some(false)
-    }
-}
-
-fn folder(
-    alloc: Global,
-    contents: &[(&str, &str)],
-    failing: Option<u64>,
-) -> Result<MemoryFiles, Fail> {
-    let mut files = MemoryFiles::new(alloc, calls(alloc, failing)?);
-    for (path, content) in contents {
-        if add(&mut files, path, content) != Some(true) {
-            return Err("a file could not be added")?;
-        }
-    }
-    Ok(files)
-}
-
-// The call without its clauses, which say no more about an outcome than what is compared.
-fn status_of<R: Threads, F: Files, S: Source, O: Sink, D: Door>(
-    rt: &R,
-    alloc: Global,
-    words: &Vec<String>,
-    files: &mut F,
-    input: &mut S,
-    out: &mut O,
-    door: &mut D,
-) -> Status
-    requires { D.state door.old ≡ DoorState.Closed }
-{
-    channel_main(rt, alloc, words, files, input, out, door)
-}
-
-fn outcome_of<R: Threads>(
-    rt: &R,
-    alloc: Global,
-    words: &str,
-    contents: &[(&str, &str)],
-    script: &str,
-    failing: Failing,
-) -> Result<Outcome, Fail> {
-    let spelled = words_of(alloc, words)?;
-    let mut files = folder(alloc, contents, failing.files)?;
-    let mut input = MemorySource::new(bytes_of(alloc, script)?, calls(alloc, failing.input)?);
-    let mut out = MemorySink::new(alloc, calls(alloc, failing.sink)?);
-    let mut door = MemoryDoor::new(alloc, calls(alloc, None)?, calls(alloc, None)?);
-    let status = status_of(
-        rt, alloc, &spelled, &mut files, &mut input, &mut out, &mut door,
-    );
-    Ok(Outcome {
-        status: status.exit_code(),
-        text: status.to_string(alloc)?,
-        written: out.bytes,
-        calls: (files.calls.made, input.calls.made, out.calls.made),
-    })
-}
-
-/// Whether a command in which no call fails ends with this exit status and text, and the sink then holds this.
-fn comes_to<R: Threads>(
-    rt: &R,
-    alloc: Global,
-    words: &str,
-    contents: &[(&str, &str)],
-    script: &str,
-    want: (u8, &str, &str),
-) -> Result<bool, Fail> {
-    let outcome = outcome_of(rt, alloc, words, contents, script, NONE)?;
-    let (status, text, written) = want;
-    Ok(
-        outcome.status == status
-            && outcome.text.as_str() == text
-            && outcome.written.as_slice() == written.as_bytes(),
-    )
-}
-
-/// Whether a command ends with this exit status, the sink then holds this, and so many calls were made on the files, the input
-/// and the sink.
-fn makes_calls<R: Threads>(
-    rt: &R,
-    alloc: Global,
-    words: &str,
-    source: &str,
-    failing: Failing,
-    want: (u8, &str, (u64, u64, u64)),
-) -> Result<bool, Fail> {
-    let contents = [("F/manifest", "title=a\n"), ("F/source/main.brs", source)];
-    let outcome = outcome_of(rt, alloc, words, &contents, "turn 1 100\n", failing)?;
-    let (status, written, calls) = want;
-    Ok(
-        outcome.status == status
-            && outcome.written.as_slice() == written.as_bytes()
-            && outcome.calls == calls,
-    )
-}
-
 /// Whether a channel of this source writes this and the node line.
 fn writes_transcript<R: Threads>(
     rt: &R,
@@ -184,7 +20,7 @@ fn writes_transcript<R: Threads>(
     words: &str,
     want: &str,
 ) -> Result<bool, Fail> {
-    let contents = [("F/manifest", "title=a\n"), ("F/source/main.brs", source)];
+    let contents = [MANIFEST, ("F/source/main.brs", source)];
     let text = format!(in alloc; "{want}{NODE}")?;
     comes_to(rt, alloc, words, &contents, script, (0, "", text.as_str()))
 }
@@ -269,18 +105,15 @@ fn a_first_form_writes_its_transcript(rt: HostRuntime) -> Result<(), Fail> {
     Ok(())
 }
 
-const MANIFEST: (&str, &str) = ("F/manifest", "title=a\n");
+const MAIN: Row<'static> = ("F/source/main.brs", EMPTY);
 
-const MAIN: (&str, &str) = ("F/source/main.brs", EMPTY);
-
-static OTHER_FOLDERS: [&[(&str, &str)]; 10] = [
+static OTHER_FOLDERS: [&[Row<'static>]; 4] = [
     &[MANIFEST, MAIN, ("F/source/x.brs", "")],
-    &[("F/components/a.xml", ""), MANIFEST, MAIN],
-    &[MAIN],
-    &[MANIFEST],
-    &[],
-    &[("F/manifest", "title\n"), MAIN],
-    &[("F/manifest", "=a"), MAIN],
+    &[
+        ("F/components/a.xml", "<component name=\"A\"></component>"),
+        MANIFEST,
+        MAIN,
+    ],
     &[
         MANIFEST,
         ("F/source/main.brs", "sub main()\nx = 1 * 2\nend sub\n"),
@@ -289,11 +122,10 @@ static OTHER_FOLDERS: [&[(&str, &str)]; 10] = [
         MANIFEST,
         ("F/source/main.brs", "sub main()\nprint y\nend sub\n"),
     ],
-    &[MANIFEST, ("F/source/main.brs", "")],
 ];
 
 #[test]
-fn for_other_folders_the_script_is_read_and_nothing_is_written(
+fn for_other_folders_without_a_fault_the_script_is_read_and_nothing_is_written(
     rt: HostRuntime,
 ) -> Result<(), Fail> {
     let alloc = rt.alloc();
@@ -316,7 +148,7 @@ fn for_other_folders_the_script_is_read_and_nothing_is_written(
 #[test]
 fn a_bad_line_or_a_key_ends_what_is_written(rt: HostRuntime) -> Result<(), Fail> {
     let alloc = rt.alloc();
-    let contents = [("F/manifest", "title=a\n"), ("F/source/main.brs", SEVEN)];
+    let contents = [MANIFEST, ("F/source/main.brs", SEVEN)];
     let print = "1 print x= 7  9\n";
     let ended = "1 print x= 7  9\n1 ended\n";
     // the script, how the command ends, and what is written
@@ -353,30 +185,23 @@ fn a_bad_line_or_a_key_ends_what_is_written(rt: HostRuntime) -> Result<(), Fail>
     Ok(())
 }
 
-/// Whether a command whose source is filled up with spaces to so many bytes ends with this exit status.
-fn has_status_at<R: Threads>(
-    rt: &R,
-    alloc: Global,
-    length: usize,
-    status: u8,
-) -> Result<bool, Fail> {
+/// How a run ends whose source is filled up with spaces to so many bytes.
+fn outcome_at<R: Threads>(rt: &R, alloc: Global, length: usize) -> Result<(u8, bool), Fail> {
     let mut source = String::from_str(alloc, EMPTY)?;
     for _ in source.len()..length {
         source.push(' ')?;
     }
-    let contents = [
-        ("F/manifest", "title=a\n"),
-        ("F/source/main.brs", source.as_str()),
-    ];
+    let contents = [MANIFEST, ("F/source/main.brs", source.as_str())];
     let outcome = outcome_of(rt, alloc, "run|F|9", &contents, "turn 1 1\n", NONE)?;
-    Ok(outcome.status == status)
+    let refused = outcome.written.as_slice() == b"refused F2 source/main.brs\n".as_slice();
+    Ok((outcome.status, refused))
 }
 
 #[test]
-fn a_file_of_65536_bytes_is_read_and_no_longer_one(rt: HostRuntime) -> Result<(), Fail> {
+fn a_file_of_1048576_bytes_runs_and_no_longer_one(rt: HostRuntime) -> Result<(), Fail> {
     let alloc = rt.alloc();
-    assert!(rt; has_status_at(&rt, alloc, 65_536, 0)?);
-    assert!(rt; has_status_at(&rt, alloc, 65_537, 9)?);
+    assert!(rt; outcome_at(&rt, alloc, 1_048_576)? == (0, false));
+    assert!(rt; outcome_at(&rt, alloc, 1_048_577)? == (1, true));
     Ok(())
 }
 
@@ -397,11 +222,15 @@ fn other_words_are_no_command(rt: HostRuntime) -> Result<(), Fail> {
         "run|F|-1",
         "run|F|1 ",
         "Run|F|1",
-        "check|F",
+        "check",
+        "check|",
+        "check|F|1",
+        "Check|F",
+        "|F",
     ] {
         let want = (7, "", (0, 0, 0));
         assert!(rt;
-            makes_calls(&rt, alloc, words, EMPTY, NONE, want)?,
+            makes_calls(&rt, alloc, words, &[MANIFEST, MAIN], NONE, want)?,
             "{words}"
         );
     }
@@ -498,9 +327,10 @@ fn after_a_failed_call_no_further_one_is_made(rt: HostRuntime) -> Result<(), Fai
             (3, 2, 4),
         ),
     ] {
+        let contents = [MANIFEST, ("F/source/main.brs", SEVEN)];
         let want = (status, written, calls);
         assert!(rt;
-            makes_calls(&rt, alloc, "run|F|100", SEVEN, failing, want)?,
+            makes_calls(&rt, alloc, "run|F|100", &contents, failing, want)?,
             "{status} {written}"
         );
     }

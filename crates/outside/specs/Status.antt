@@ -23,6 +23,6 @@ status_text (BadScript line) = codes "bad script line " ++ decimal line
 status_text ReadFault = codes "read fault"
 status_text WriteFault = codes "write fault"
 status_text DoorFault = codes "door fault"
-status_text BadWords = codes "usage: run F N"
+status_text BadWords = codes "usage: check F | run F N"
 status_text NoMemory = codes "no memory"
 status_text NotYet = codes "not yet"

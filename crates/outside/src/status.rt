@@ -64,7 +64,7 @@ impl fmt::Display for Status {
             Status::ReadFault => write!(f, "read fault"),
             Status::WriteFault => write!(f, "write fault"),
             Status::DoorFault => write!(f, "door fault"),
-            Status::BadWords => write!(f, "usage: run F N"),
+            Status::BadWords => write!(f, "usage: check F | run F N"),
             Status::NoMemory => write!(f, "no memory"),
             Status::NotYet => write!(f, "not yet"),
         }
