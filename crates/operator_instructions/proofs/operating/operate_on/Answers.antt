@@ -13,11 +13,11 @@ push_value-requires c =
 
 pub returns-in-Raised-clause-ok : goal.returns-in-Raised-clause-ok
 returns-in-Raised-clause-ok c = λ instr is.
-    error_found c.args.heap.now c.apply-applied.new.heap c.args.operation c.last.result.now c.in-Raised.error c.args.n
-    (subst (λ r. Applies c.args.heap.now c.apply-applied.new.heap c.last.result.now r (applied c.args.operation)) c.in-Raised.is c.in_ok-applied.ensures.answer) c.args.frames.now instr c.requires.operands c.last.ensures c.requires.there is
+    error_found c.args.heap.now c.apply.new.heap c.args.operation c.last.result.now c.in-Raised.error c.args.n
+    (subst (λ r. Applies c.args.heap.now c.apply.new.heap c.last.result.now r (applied c.args.operation)) c.in-Raised.is c.in_ok-applied.ensures.answer) c.args.frames.now instr c.requires.operands c.last.ensures c.requires.there is
 
 pub returns-in_ok-push_value-in-Value-clause-ok : goal.returns-in_ok-push_value-in-Value-clause-ok
 returns-in_ok-push_value-in-Value-clause-ok c = λ instr is.
-    value_given c.args.heap.now c.apply-applied.new.heap c.drop_to.new.heap c.args.frames.now c.drop_to.new.frames c.push_value.new.frames instr c.args.n c.place_behind-next.result c.args.operation c.last.result.now c.in-Value.v c.requires.operands c.last.ensures
-    (subst (λ r. Applies c.args.heap.now c.apply-applied.new.heap c.last.result.now r (applied c.args.operation)) c.in-Value.is c.in_ok-applied.ensures.answer) c.requires.there c.place_behind-next.ensures c.drop_to.ensures.carries c.drop_to.ensures.frames
+    value_given c.args.heap.now c.apply.new.heap c.drop_to.new.heap c.args.frames.now c.drop_to.new.frames c.push_value.new.frames instr c.args.n c.place_behind-next.result c.args.operation c.last.result.now c.in-Value.v c.requires.operands c.last.ensures
+    (subst (λ r. Applies c.args.heap.now c.apply.new.heap c.last.result.now r (applied c.args.operation)) c.in-Value.is c.in_ok-applied.ensures.answer) c.requires.there c.place_behind-next.ensures c.drop_to.ensures.carries c.drop_to.ensures.frames
     c.in_ok-push_value-in-Value.ensures.ok is
