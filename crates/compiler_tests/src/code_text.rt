@@ -105,13 +105,21 @@ pub fn way_steps(alloc: Global, source: &str, ways: &str) -> usize {
     }
 }
 
+/// Whether code keeps the rule once it has a scope.
+fn keeps_rule(alloc: Global, mut code: Code) -> bool {
+    if code.scopes.len() > 9 {
+        return false;
+    }
+    match code.add_scope(alloc, &ScopeList::new(alloc)) {
+        Ok(_) => verify(code).is_ok(),
+        Err(_) => false,
+    }
+}
+
 /// Whether the compiled code of a source file keeps the rule of valid code once it has a scope.
 pub fn is_valid(alloc: Global, source: &str) -> bool {
     match compiled(alloc, source) {
-        Some(mut code) => match code.add_scope(alloc, &ScopeList::new(alloc)) {
-            Ok(_) => verify(code).is_ok(),
-            Err(_) => false,
-        },
+        Some(code) => keeps_rule(alloc, code),
         None => false,
     }
 }
