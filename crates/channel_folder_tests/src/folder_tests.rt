@@ -1,5 +1,5 @@
 //! What no clause says: with ample memory a folder is checked, and its first fault is found.
-use crate::folders::{Row, answer, entries};
+use crate::folders::{Row, entries, is_answered};
 use std::test::Fail;
 
 const MANIFEST: Row = ("manifest", "title=a\n");
@@ -7,8 +7,8 @@ const MANIFEST: Row = ("manifest", "title=a\n");
 const MAIN: Row = ("source/main.brs", "sub main()\nend sub\n");
 
 #[test]
-fn a_folder_is_refused_for_its_first_fault(rt: HostRuntime) -> Result<(), Fail> {
-    let rows: [(&[Row], &str); 17] = [
+fn source_files_are_looked_at_in_order_behind_the_manifest(rt: HostRuntime) -> Result<(), Fail> {
+    let rows: [(&[Row], &str); 8] = [
         (&[], "refused F3"),
         (&[MANIFEST], "refused F19"),
         (&[MANIFEST, ("source/main.brs", "")], "refused F19"),
@@ -38,26 +38,22 @@ fn a_folder_is_refused_for_its_first_fault(rt: HostRuntime) -> Result<(), Fail> 
         ),
         (
             &[
-                (
-                    "components/a.xml",
-                    "<component name=\"A\" extends=\"Nope\"></component>",
-                ),
                 MANIFEST,
-                MAIN,
+                ("source/a.brs", "sub main()\nexit for\nend sub\n"),
+                ("source/b.brs", "/"),
             ],
-            "refused F10 components/a.xml:1 nope",
+            "refused F7 source/a.brs:2:1 ExitOutsideLoop",
         ),
-        (
-            &[
-                (
-                    "components/a.xml",
-                    "<component name=\"A\" extends=\"Group\"><interface><field id=\"F\" type=\"float\"/></interface></component>",
-                ),
-                MANIFEST,
-                MAIN,
-            ],
-            "refused F15 components/a.xml:1 f",
-        ),
+    ];
+    for (files, want) in rows {
+        assert!(rt; is_answered(&rt, rt.alloc(), files, want)?, "{want}");
+    }
+    Ok(())
+}
+
+#[test]
+fn components_are_looked_at_behind_the_files(rt: HostRuntime) -> Result<(), Fail> {
+    let rows: [(&[Row], &str); 6] = [
         (
             &[
                 (
@@ -83,18 +79,6 @@ fn a_folder_is_refused_for_its_first_fault(rt: HostRuntime) -> Result<(), Fail> 
                 ),
             ],
             "good",
-        ),
-        (
-            &[MANIFEST, ("source/main.brs", "sub main()\na.b\nend sub\n")],
-            "refused F6 source/main.brs:2:4",
-        ),
-        (
-            &[
-                MANIFEST,
-                ("source/a.brs", "sub main()\nexit for\nend sub\n"),
-                ("source/b.brs", "/"),
-            ],
-            "refused F7 source/a.brs:2:1 ExitOutsideLoop",
         ),
         (
             &[
@@ -149,8 +133,7 @@ fn a_folder_is_refused_for_its_first_fault(rt: HostRuntime) -> Result<(), Fail> 
         ),
     ];
     for (files, want) in rows {
-        let found = answer(&rt, rt.alloc(), files)?;
-        assert!(rt; found.as_str() == want, "{found} {want}");
+        assert!(rt; is_answered(&rt, rt.alloc(), files, want)?, "{want}");
     }
     Ok(())
 }

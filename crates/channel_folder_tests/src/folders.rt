@@ -79,8 +79,19 @@ fn answer_behind<R: Threads, G: Gate>(
 }
 
 /// What the check of a folder of these files says: `good`, or the refusal.
-pub(crate) fn answer<R: Threads>(rt: &R, alloc: Global, rows: &[Row]) -> Result<String, Fail> {
+fn answer<R: Threads>(rt: &R, alloc: Global, rows: &[Row]) -> Result<String, Fail> {
     answer_behind(rt, alloc, rows, &NoGate)
+}
+
+/// Whether the check of a folder of these files says this.
+pub(crate) fn is_answered<R: Threads>(
+    rt: &R,
+    alloc: Global,
+    rows: &[Row],
+    want: &str,
+) -> Result<bool, Fail> {
+    let found = answer(rt, alloc, rows)?;
+    Ok(found.as_str() == want)
 }
 
 /// A gate that counts how often each half enters it.

@@ -1,5 +1,5 @@
 //! The examples of `docs/FORMATS.md`: a small folder for each kind of fault behind those of sizes, and its line.
-use crate::folders::{Row, answer};
+use crate::folders::{Row, is_answered};
 use std::alloc::Global;
 use std::test::Fail;
 use std::thread::Threads;
@@ -15,8 +15,7 @@ fn is_refused_source<R: Threads>(
     source: &'static str,
     want: &str,
 ) -> Result<bool, Fail> {
-    let found = answer(rt, alloc, &[MANIFEST, ("source/main.brs", source)])?;
-    Ok(found.as_str() == want)
+    is_answered(rt, alloc, &[MANIFEST, ("source/main.brs", source)], want)
 }
 
 #[test]
@@ -49,12 +48,12 @@ fn is_refused_component<R: Threads>(
     component: &'static str,
     want: &str,
 ) -> Result<bool, Fail> {
-    let found = answer(
+    is_answered(
         rt,
         alloc,
         &[("components/a.xml", component), MANIFEST, MAIN],
-    )?;
-    Ok(found.as_str() == want)
+        want,
+    )
 }
 
 #[test]
@@ -129,8 +128,7 @@ fn the_files_of_a_folder_have_the_line_of_their_fault(rt: HostRuntime) -> Result
         ),
     ];
     for (files, want) in rows {
-        let found = answer(&rt, rt.alloc(), files)?;
-        assert!(rt; found.as_str() == want, "{found} {want}");
+        assert!(rt; is_answered(&rt, rt.alloc(), files, want)?, "{want}");
     }
     Ok(())
 }
