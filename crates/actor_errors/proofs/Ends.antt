@@ -67,9 +67,9 @@ told_seen image name (x ∷ below) (y ∷ others) frame waiting error line shown
 -- ---- an error at an instruction
 
 pub ends_step : (error : ErrorCode) (line : ℕ) (mid new : Heap) (middle after : List Frame) (shown : Outcome) → Ended error line mid middle new after shown → IsStep error line mid middle new shown
-ends_step error line mid new middle after shown ended = λ old before instr faulted same carries image number own operands name homes frame waiting store is.
+ends_step error line mid new middle after shown ended = λ old before instr image number own operands faulted same carries name homes frame waiting store is.
     let whole : Carries old before new after = λ other_name other_store others s. ended.carries other_name other_store others (carries other_name other_store others s) in
-    subst (λ a. ShownAs image new (idle number own) shown homes (carried a homes frame line (drop (pops instr) frame.operands) waiting store)) (sym (faulted image number own name homes frame waiting store is)) (
+    subst (λ a. ShownAs image new (idle number own) shown homes (carried a homes frame line (drop (pops instr) frame.operands) waiting store)) (sym (faulted name homes frame waiting store is)) (
       told_seen image name before middle frame waiting error line shown is.machine_is same ended.told,
       seen_idle image name homes old new (working number own before) after (mm.Works frame waiting) store is ended.frames whole,
     )

@@ -13,8 +13,8 @@ use Rattle.actor_meaning.specs.declared.outcome.Outcome.TheVariants.{Raised}
 use Rattle.actor_meaning.specs.declared.phase.Phase.TheVariants.{Waits, Fails}
 use Rattle.actor_meaning.specs.View.{Home, Actor}
 use Rattle.actor_meaning.specs.Promises.{Steps}
-use Rattle.actor_meaning.specs.Performing.{Performs}
-use Rattle.actor_meaning.specs.Performed.{working, Faulted}
+use Rattle.actor_meaning.specs.Performing.{Performs, RaisesError}
+use Rattle.actor_meaning.specs.Performed.{working}
 
 -- an actor without calls
 abbrev pub idle : (number : ℕ) → List Home → Actor
@@ -38,12 +38,12 @@ pub record Ended (error : ErrorCode) (line : ℕ) (old : Heap) (before : List Fr
   pub carries : Carries old before new after
   pub told : IfSome (innermost before) (λ x. shown ≡ Raised error (place_of x.head line))
 
--- whenever an instruction of this line found the error, in a call of the same function, and the heap has counted what the calls hold
--- since, this is its step
+-- whenever an instruction of this line raises the error, in a call of the same function, and the heap has counted what the calls hold since,
+-- this is its step
 abbrev pub IsStep : ErrorCode → (line : ℕ) → (mid : Heap) → (middle : List Frame) → (new : Heap) → Outcome → Type 0
 IsStep error line mid middle new shown =
-    (old : Heap) (before : List Frame) (instr : Instr) → Faulted old before error instr → path_of before ≡ path_of middle → Carries old before mid middle
-    → (image : Image) (number : ℕ) (homes : List Home) (operands : ℕ)
+    (old : Heap) (before : List Frame) (instr : Instr) (image : Image) (number : ℕ) (homes : List Home) (operands : ℕ)
+    → RaisesError image old (working number homes before) instr error → path_of before ≡ path_of middle → Carries old before mid middle
     → Performs image old (working number homes before) new (idle number homes) shown (record { instr = instr; line = line; operands = operands })
 
 pub record Raises (error : ErrorCode) (line : ℕ) (old : Heap) (before : List Frame) (new : Heap) (after : List Frame) (shown : Outcome) : Type 0 where
