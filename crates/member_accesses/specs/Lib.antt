@@ -1,0 +1,4 @@
+pub mod Fields
+pub mod Named
+pub mod Reaching
+pub mod Rows

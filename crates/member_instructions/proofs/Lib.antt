@@ -1,0 +1,4 @@
+pub mod Settled
+pub mod Rows
+pub mod Seen
+pub mod Doing
