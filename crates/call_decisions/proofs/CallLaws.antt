@@ -75,11 +75,10 @@ past : (code : Code) (image : Image) (n count : ℕ) → image.code ≡ code →
 past code image n count same counted small above =
     let l = length-append image.code.named image.code.anonymous in
     let e : function_count image.code ≡ function_count code = ap function_count same in
-    let exact : count ≡ function_count image.code = omega arith in
-    (
-    slice_get_past (image.code.named ++ image.code.anonymous) n (omega arith),
-    ap (λ t. cond t None (slice_get image.built_ins (n - function_count image.code))) (le-ltb n (function_count image.code) (omega arith)) ∙ ap (λ c. slice_get image.built_ins (n - c)) (sym exact),
-    exact
+    let exact : count ≡ function_count image.code = omega arith in (
+      slice_get_past (image.code.named ++ image.code.anonymous) n (omega arith),
+      ap (λ t. cond t None (slice_get image.built_ins (n - function_count image.code))) (le-ltb n (function_count image.code) (omega arith)) ∙ ap (λ c. slice_get image.built_ins (n - c)) (sym exact),
+      exact,
     )
 
 pub built_in_is : (code : Code) (image : Image) (n count built_ins : ℕ) → image.code ≡ code → count ≡ min (function_count code) (2 ^ 64 - 1) → length image.built_ins ≡ built_ins → n < 2 ^ 32 → count ≤ n → n - count < built_ins

@@ -82,9 +82,6 @@ module _ (s : Setting) (x : StoreValue) (arguments : List StoreValue) (store : S
   pub map_given : (k : List ℕ) (held : Option StoreValue) → gives s (map_called k x held arguments store) ≡ acts (missing held) (method_named r.Pairs k) k
   map_given k held = first (bytes_eq k (codes "append")) refl
     where
-      abbrev appended : Acted
-      appended = gives s (answered (on_map append_keys_row (x ∷ arguments) store))
-
       second : bytes_eq k (codes "append") ≡ false → (t : Bool) → bytes_eq k (codes "keys") ≡ t → gives s (map_called k x held arguments store) ≡ acts (missing held) (method_named r.Pairs k) k
       second a true q = subst (λ z. gives s (map_called z x held arguments store) ≡ acts (missing held) (method_named r.Pairs z) z) (sym (same_bytes k (codes "keys") q)) refl
       second a false q =

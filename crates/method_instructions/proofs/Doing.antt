@@ -45,16 +45,15 @@ pub error_found : (old new : Heap) (frames : List Frame) (n k : ℕ) (operation 
     → Applies old new arguments (a.Raised error) (applied operation) → OperatedOn (e.Raises error) old frames new frames n k operation
 error_found old new frames n k operation arguments error e applies =
     let same : arguments ≡ last_values k frames = in_order arguments k frames e in
-    let on : Applies old new (last_values k frames) (a.Raised error) (applied operation) = subst (λ vs. Applies old new vs (a.Raised error) (applied operation)) same applies in
-    (
-    λ image number own instr is name homes frame waiting store seen.
-        is.row name homes frame waiting store seen
-        ∙ (raised (setting_of image number homes frame) name new store (held (working number own frames)) error (applied operation (map (meaning name) (last_values k frames)) store)
-        (on.answers name store (held (working number own frames)) seen.stands (values_out number own frames k))).0,
-    λ name store others s.
-        (raised_stands name store (λ i. others i + call_references i frames) (applied operation (map (meaning name) (last_values k frames)) store)
-        (on.answers name store (λ i. others i + call_references i frames) s (λ i. let y = arguments_out arguments frames k e i in let z : occurrences i arguments ≡ occurrences i (last_values k frames) = ap (occurrences i) same in omega arith))),
-    refl
+    let on : Applies old new (last_values k frames) (a.Raised error) (applied operation) = subst (λ vs. Applies old new vs (a.Raised error) (applied operation)) same applies in (
+      λ image number own instr is name homes frame waiting store seen.
+          is.row name homes frame waiting store seen
+          ∙ (raised (setting_of image number homes frame) name new store (held (working number own frames)) error (applied operation (map (meaning name) (last_values k frames)) store)
+          (on.answers name store (held (working number own frames)) seen.stands (values_out number own frames k))).0,
+      λ name store others s.
+          (raised_stands name store (λ i. others i + call_references i frames) (applied operation (map (meaning name) (last_values k frames)) store)
+          (on.answers name store (λ i. others i + call_references i frames) s (λ i. let y = arguments_out arguments frames k e i in let z : occurrences i arguments ≡ occurrences i (last_values k frames) = ap (occurrences i) same in omega arith))),
+      refl,
     )
   where
     raised_stands : (name : Naming) (store : Store) (before : Outside) (answer : Answer) → Answers name new store before (a.Raised error) answer → Stands name new.cells store before
