@@ -52,11 +52,11 @@ beside_onto {A} (row ∷ rows) others name = go (bytes_eq row.0 name) (beside_on
 
 unfolded_lacks : (es : List (Entry Value)) (name : List ℕ) → AllByRecursion (λ k. folded k ≡ k) (keys_of es) → (folded name ≡ name → ⊥) → value_at_key es name ≡ None
 unfolded_lacks [] name all other = refl
-unfolded_lacks (e ∷ es) name all other = go (bytes_eq e.key name) refl
+unfolded_lacks (e ∷ es) name all other = go (unfolded_lacks es name all.1 other) (bytes_eq e.key name) refl
   where
-    go : (t : Bool) → bytes_eq e.key name ≡ t → cond t (Some e.value) (value_at_key es name) ≡ None
-    go false q = unfolded_lacks es name all.1 other
-    go true q = absurd (other (subst (λ k. folded k ≡ k) (same_bytes e.key name q) all.0))
+    go : value_at_key es name ≡ None → (t : Bool) → bytes_eq e.key name ≡ t → cond t (Some e.value) (value_at_key es name) ≡ None
+    go rest false q = rest
+    go rest true q = absurd (other (subst (λ k. folded k ≡ k) (same_bytes e.key name q) all.0))
 
 pub no_key : (content : Option Content) (name : List ℕ) → IsKeyList (keys_in content) → (folded name ≡ name → ⊥) → None ≡ value_in content name
 no_key None name keys other = refl

@@ -33,11 +33,11 @@ fn operation_or_nothing(function: Option<PlainFunction>) -> BuiltInCall
 fn decide(name: &[u8]) -> BuiltInCall
     ensures { result ≡ spec.built_in_called name.now }
 {
-    if name == b"createobject" {
+    if name == b"createobject".as_slice() {
         BuiltInCall::CreateObject
-    } else if name == b"wait" {
+    } else if name == b"wait".as_slice() {
         BuiltInCall::Wait
-    } else if name == b"type" {
+    } else if name == b"type".as_slice() {
         BuiltInCall::Applies(Operation::TypeName)
     } else {
         operation_or_nothing(function_named(name))
