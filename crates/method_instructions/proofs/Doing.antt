@@ -72,10 +72,10 @@ value_there old mid new x below n k to operation arguments v e applies behind ca
 pub value_given : (old mid new : Heap) (frames middle after : List Frame) (n k to : ℕ) (operation : Operation) (arguments : List Value) (v : Value) → reverse arguments ≡ take k (values (operands_of frames))
     → Applies old mid arguments (a.Value v) (applied operation) → 0 < length frames → IsBehind frames to → Carries mid frames new middle → middle ≡ changed (dropped n to) frames → after ≡ changed (pushed v to) middle
     → OperatedOn e.Went old frames new after n k operation
-value_given old mid new [] middle after n k to operation arguments v e applies there behind carries fewer more_is = absurd (omega arith)
-value_given old mid new (x ∷ below) middle after n k to operation arguments v e applies there behind carries fewer more_is =
+value_given old mid new [] middle after n k to operation arguments v turned applies there behind carries fewer more_is = absurd (omega arith)
+value_given old mid new (x ∷ below) middle after n k to operation arguments v turned applies there behind carries fewer more_is =
     subst (λ l. OperatedOn e.Went old (x ∷ below) new l n k operation) (sym (more_is ∙ ap (changed (pushed v to)) fewer))
-    (value_there old mid new x below n k to operation arguments v e applies behind (subst (λ l. Carries mid (x ∷ below) new l) fewer carries))
+    (value_there old mid new x below n k to operation arguments v turned applies behind (subst (λ l. Carries mid (x ∷ below) new l) fewer carries))
 
 -- ---- the effect
 

@@ -27,7 +27,8 @@ in_order arguments n frames e = sym (reverse-reverse arguments) ∙ ap reverse e
 pub callee_first : (count : ℕ) (frames : List Frame) → count < length (operands_of frames) → last_values (count + 1) frames ≡ callee count frames ∷ last_values count frames
 callee_first count frames there =
     let l = map_length value_of (operands_of frames) in
-    ap (λ n. last_values n frames) (omega arith)
+    let e : count + 1 ≡ suc count = omega arith in
+    ap (λ n. last_values n frames) e
     ∙ ap reverse (take-suc (values (operands_of frames)) count filler (omega arith))
     ∙ reverse-append (take count (values (operands_of frames))) (callee count frames ∷ [])
 
