@@ -1,24 +1,21 @@
 -- The call of a member of a value of the heap, as whatever it is seen.
-use Rattle.std.proofs.Common.{◌≡◌, ℕ, List, [], ◌∷◌, map, Option, Some, None, refl, sym, ap, ◌∙◌, subst}
+use Rattle.std.proofs.Common.{◌≡◌, ℕ, List, [], map, Option, Some, None, refl, ap, ◌∙◌}
 use Rattle.std.specs.Prelude.{slice_get, option_map}
-use Rattle.chan_values.specs.declared.error_code.ErrorCode.TheVariants.{E4}
 use Rattle.heap_meaning.specs.declared.plain.Plain.{Plain}
 use Rattle.heap_meaning.specs.declared.plain.Plain.TheVariants as p
 use Rattle.heap_meaning.specs.Values.{Value, StoreValue, Scalar, Words, Reference, Entry}
 use Rattle.heap_meaning.specs.Keys.{value_at_key}
-use Rattle.heap_meaning.specs.Store.{Object, ArrayObject, MapObject, MessageObject, Store}
+use Rattle.heap_meaning.specs.Store.{MapObject, Store}
 use Rattle.heap_meaning.specs.Cells.{Content}
 use Rattle.heap_meaning.specs.Stands.{Naming, Outside, meaning, entry_meaning, Stands}
 use Rattle.heap_meaning.specs.Heap.{Heap, Belongs, content_at}
 use Rattle.heap_meaning.specs.Reading.{plain_of, value_in}
 use Rattle.heap_meaning.proofs.Showing.{Seen, sees_plain, sees_text, sees_array, sees_pairs, sees_message, sees, value_belongs}
-use Rattle.object_operations.specs.Applies.{AreOut}
 use Rattle.object_operations.specs.declared.receiver.Receiver.TheVariants as r
 use Rattle.object_operations.proofs.Seeing.{first_belongs}
 use Rattle.object_operations.proofs.Entries.{value_map}
 use Rattle.brs_builtins.specs.Names.{method_named}
 use Rattle.brs_meaning.specs.Methods.{object_method_called, method_call}
-use Rattle.machine_meaning.specs.Acted.{Acted}
 use Rattle.machine_meaning.specs.Setting.{Setting, gives}
 use Rattle.machine_meaning.specs.Calls.{key_called, object_called, member_call}
 use Rattle.call_decisions.specs.MemberCalls as spec

@@ -1,12 +1,12 @@
 -- A built-in method of a value, as the operation that it is.
-use Rattle.std.proofs.Common.{◌≡◌, ℕ, List, [], ◌∷◌, ◌++◌, map, length, Option, Some, None, refl, sym, ap, ◌∙◌, subst}
+use Rattle.std.proofs.Common.{◌≡◌, ℕ, List, [], ◌∷◌, Option, Some, None, refl, sym, ap, ◌∙◌, subst}
 use Rattle.std.specs.Prelude.{Bool, true, false, cond, codes, option_map, slice_get}
 use Rattle.std.specs.Str.{bytes_eq}
 use Rattle.chan_values.specs.declared.error_code.ErrorCode.{ErrorCode}
 use Rattle.chan_values.specs.declared.error_code.ErrorCode.TheVariants.{E4, E5}
 use Rattle.chan_values.specs.declared.message.Message.{Message}
 use Rattle.heap_meaning.specs.Values.{StoreValue, Reference}
-use Rattle.heap_meaning.specs.Store.{Object, MessageObject, Store}
+use Rattle.heap_meaning.specs.Store.{MessageObject, Store}
 use Rattle.heap_meaning.proofs.Lists.{map_length}
 use Rattle.plain_operations.specs.Names as n
 use Rattle.plain_operations.specs.Names.{beside}

@@ -1,5 +1,4 @@
 use Rattle.std.proofs.Common.{sym, ap, ◌∙◌, subst}
-use Rattle.heap_meaning.specs.Reading.{plain_of}
 use Rattle.call_decisions.specs.Functions.{number_of}
 use Rattle.call_decisions.specs.CallRows.{IsCallRow}
 use Rattle.call_decisions.proofs.CallLaws.{call_row}
