@@ -1,0 +1,4 @@
+pub mod Names
+pub mod MethodLaws
+pub mod MemberLaws
+pub mod CallLaws

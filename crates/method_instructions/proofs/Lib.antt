@@ -1,0 +1,4 @@
+pub mod Values
+pub mod Doing
+pub mod Rows
+pub mod Calls

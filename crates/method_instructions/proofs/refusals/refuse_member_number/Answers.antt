@@ -1,0 +1,5 @@
+use Rattle.method_instructions.proofs.Calls.{member_number_is_refused}
+use Rattle.method_instructions.proofs.refusals.refuse_member_number.Goals as goal
+
+pub returns : goal.returns
+returns c = member_number_is_refused c.args.heap.now c.args.frames.now c.args.count c.requires

@@ -1,0 +1,4 @@
+pub mod Callees
+pub mod Operating
+pub mod Calling
+pub mod Refusing
