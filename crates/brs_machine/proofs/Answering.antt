@@ -1,5 +1,7 @@
 -- Answers to an open want.
-use Rattle.std.proofs.Common.{◌≡◌, ℕ, ◌+◌, ◌<◌, List, [], ◌∷◌, ◌++◌, length, map, refl, sym, ap, ◌∙◌, subst, arith}
+use Rattle.std.proofs.Common.{◌≡◌, ℕ, ◌+◌, ◌<◌, List, [], ◌∷◌, ◌++◌, length, map, Result, refl, sym, ap, ◌∙◌, subst, arith}
+use Rattle.std.specs.Prelude.{OnOk}
+use Rattle.chan_values.specs.declared.error_code.ErrorCode.{ErrorCode}
 use Rattle.chan_values.specs.declared.message.Message.{Message}
 use Rattle.chan_values.specs.declared.portable.Portable.{Portable}
 use Rattle.chan_values.specs.View.{tree_of}
@@ -21,6 +23,8 @@ use Rattle.frame_stack.specs.declared.header.Landing.TheVariants.{Operands, Nowh
 use Rattle.frame_stack.specs.Operand.{Holds}
 use Rattle.frame_stack.specs.Frame.{Frame, with_operand, changed, innermost}
 use Rattle.call_release.specs.References.{call_references}
+use Rattle.frame_actions.proofs.Moving.{on_ok_then}
+use Rattle.actor_meaning.specs.declared.outcome.Answer.{Answer}
 use Rattle.actor_meaning.specs.declared.outcome.Answer.TheVariants as n
 use Rattle.actor_meaning.specs.declared.phase.Phase.{Phase}
 use Rattle.actor_meaning.specs.declared.phase.Phase.TheVariants.{Works, Waits, Fails}
@@ -79,3 +83,33 @@ module _ (image : Image) (h1 h2 : Heap) (old new : Actor) (v : Value) (r : Recei
     message_resumed message makes = λ name homes machine store is.
         waited name homes old.frames machine (store ++ MessageObject message ∷ []) (Reference (length store)) refl there is.homes_are (subst (λ p. MachineIs image name p old.frames machine) waits is.machine_is)
         (makes name store (held old) (λ k. occurrence k v + held old k) is.stands (λ k. refl))
+
+-- ---- as the calls answer
+
+module _ {A E : Type 0} (r : Result A E) (h0 h1 h2 : Heap) (old new : Actor) (v : Value) (answer : Answer) (waits : old.phase ≡ Waits) (there : 0 < length old.frames) where
+  pub value_answered : (value : Portable) → answer ≡ n.Value value → LaysDown h0 h1 v (tree_of value) → OnOk r (Receives h1 old h2 new v) → OnOk r ((image : Image) → Resumes image h0 old h2 new answer)
+  value_answered value is lays receives = on_ok_then r (Receives h1 old h2 new v) ((image : Image) → Resumes image h0 old h2 new answer)
+      (λ ok image. subst (Resumes image h0 old h2 new) (sym is) (value_resumed image h1 h2 old new v ok h0 waits there value lays)) receives
+
+  pub message_answered : (message : Message) → answer ≡ n.Message message → MakesObject h0 h1 v (MessageObject message) → OnOk r (Receives h1 old h2 new v) → OnOk r ((image : Image) → Resumes image h0 old h2 new answer)
+  message_answered message is makes receives = on_ok_then r (Receives h1 old h2 new v) ((image : Image) → Resumes image h0 old h2 new answer)
+      (λ ok image. subst (Resumes image h0 old h2 new) (sym is) (message_resumed image h1 h2 old new v ok h0 waits there message makes)) receives
+
+-- ---- an error
+
+abbrev pub failing : ErrorCode → Actor → Actor
+failing error a = record a { phase = Fails error }
+
+fails_on : (image : Image) (name : Naming) (error : ErrorCode) (frames : List Frame) (machine : mm.Machine) → 0 < length frames → MachineIs image name Waits frames machine → MachineIs image name (Fails error) frames (s.failing error machine)
+fails_on image name error [] machine there is = absurd (omega arith)
+fails_on image name error (x ∷ frames) (mm.Waits (h ∷ below)) there is = (refl, is.0, is.1)
+fails_on image name error (x ∷ frames) (mm.Waits []) there is = absurd is
+fails_on image name error (x ∷ frames) (mm.Works frame below) there is = absurd is
+fails_on image name error (x ∷ frames) (mm.Fails e h below) there is = absurd is
+
+pub failure_answered : (heap : Heap) (old : Actor) (error : ErrorCode) (answer : Answer) → answer ≡ n.Failed error → old.phase ≡ Waits → 0 < length old.frames → (image : Image) → Resumes image heap old heap (failing error old) answer
+failure_answered heap old error answer e waits there image = subst (Resumes image heap old heap (failing error old)) (sym e)
+    (λ name homes machine store is. record {
+      naming = name;
+      is = record { stands = is.stands; homes_are = is.homes_are; machine_is = fails_on image name error old.frames machine there (subst (λ p. MachineIs image name p old.frames machine) waits is.machine_is) };
+    })

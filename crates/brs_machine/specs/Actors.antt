@@ -1,19 +1,35 @@
--- The calls on an actor that read no code.
+-- An actor, and what the calls on it say and change that read no code.
 use Rattle.std.specs.Prelude.{◌≡◌, ℕ, Bool, true, false, List, [], ◌∷◌, ◌++◌, length, Option, Some, None, slice_get, slice_set}
 use Rattle.chan_values.specs.declared.place.Place.{Place}
+use Rattle.chan_values.specs.Tree.{Tree}
+use Rattle.copy_meaning.specs.Laying.{with_tree, value_of_tree}
 use Rattle.heap_meaning.specs.Values.{Value}
+use Rattle.heap_meaning.specs.Store.{Store}
+use Rattle.heap_meaning.specs.Stands.{Naming}
+use Rattle.heap_meaning.specs.Heap.{Heap}
+use Rattle.brs_meaning.specs.Locals as l
+use Rattle.machine_meaning.specs.Image.{Image}
+use Rattle.machine_meaning.specs.Frame as mm
 use Rattle.frame_stack.specs.Frame.{Frame}
 use Rattle.actor_meaning.specs.declared.phase.Phase.{Phase}
 use Rattle.actor_meaning.specs.declared.phase.Phase.TheVariants.{Works, Waits, Fails}
-use Rattle.actor_meaning.specs.View.{Home, Actor}
+use Rattle.actor_meaning.specs.View.{Home, Actor, ActorIs}
+use Rattle.actor_meaning.specs.Promises.{SeenAs}
 
 -- an actor without homes and calls
 abbrev pub begun : (number : ℕ) → Actor
 begun number = record { number = number; homes = []; phase = Waits; frames = [] }
 
--- one home more, in the source scope
+-- one home more, whose names read in the source scope
 abbrev pub with_home : Value → Actor → Actor
 with_home m a = record a { homes = a.homes ++ record { scope = 0; m = m } ∷ [] }
+
+-- the home that was added is seen with this associative array as its `m`, laid down anew, and all else as before
+pub record AddsHome (old_heap : Heap) (old : Actor) (new_heap : Heap) (new : Actor) (t : Tree) : Type 0 where
+  pub m : Value
+  pub is : new ≡ with_home m old
+  pub seen : (image : Image) (name : Naming) (homes : List l.Home) (machine : mm.Machine) (store : Store) → ActorIs image name old_heap old homes machine store
+      → SeenAs image new_heap new (homes ++ record { scope = 0; m = value_of_tree store t } ∷ []) machine (with_tree store t)
 
 abbrev pub rescoped : Option Home → (n scope : ℕ) → List Home → List Home
 rescoped None n scope homes = homes

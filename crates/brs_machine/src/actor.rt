@@ -1,20 +1,21 @@
 //! An actor: its homes, and its calls in progress.
-ghost use Rattle.std.specs.Prelude.{◌≡◌, ◌<◌, length, IfSome, OnOk, slice_get, option_map};
-ghost use Rattle.heap_meaning.specs.Heap.{Heap as Shown};
+ghost use Rattle.std.specs.Prelude.{◌≡◌, ◌<◌, ◌^◌, length, IfSome, IfOk, OnOk, OnErr, slice_get, option_map};
+ghost use Rattle.chan_values.specs.Tree.{pairs_of};
 ghost use Rattle.machine_meaning.specs.Image.{Image};
 ghost use Rattle.actor_meaning.specs.declared.phase.Phase.TheVariants.{Waits};
 ghost use Rattle.actor_meaning.specs.Promises.{Resumes, Ends};
-ghost use Rattle.brs_machine.specs.Actors.{begun, with_scope, idle, at_work, wanting, place_of, home_of};
+ghost use Rattle.brs_machine.specs.Actors.{begun, AddsHome, with_scope, idle, at_work, wanting, place_of, home_of};
 ghost use Rattle.brs_machine.specs.Landing.{Receives};
 
 use crate::HomeId;
 use crate::answers::land;
-use crate::home::{Home, release_homes};
+use crate::first::first_m;
+use crate::home::{Home, push_home, release_homes};
 use actor_meaning::{Answer, Phase};
 use brs_copy::copy_in;
 use brs_heap::{Heap, Value};
 use call_release::release_calls;
-use chan_values::{NoMemory, Place, copy_message};
+use chan_values::{NoMemory, PairList, Place, copy_message};
 use frame_stack::FrameStack;
 use std::alloc::Global;
 use std::marker::Model;
@@ -50,6 +51,26 @@ impl Actor {
             phase: Phase::Waits,
             frames: FrameStack::new(alloc),
         }
+    }
+
+    /// Adds a home, whose `m` is a new associative array of these pairs, and whose names read in the source scope, and answers its number.
+    /// After `NoMemory` the actor is as before, and nothing more is said of the heap.
+    pub fn add_home(
+        &mut self,
+        alloc: Global,
+        heap: &mut Heap,
+        first: &PairList,
+    ) -> Result<HomeId, NoMemory>
+        requires { length self.old.homes < 2 ^ 32 }
+        ensures number { IfOk result (λ home. home.0 ≡ length self.old.homes) }
+        ensures added { OnOk result (AddsHome heap.old self.old heap.new self.new (pairs_of first.now)) }
+        ensures unchanged { OnErr result (self.new ≡ self.old) }
+        ensures shares { heap.new.shares ≡ heap.old.shares }
+    {
+        let number = self.homes.len();
+        let m = first_m(alloc, heap, first)?;
+        push_home(&mut self.homes, Home { scope: 0, m })?;
+        Ok(HomeId(number as u32))
     }
 
     /// Lets the names in the calls of a home read in another scope. Takes no memory.
@@ -115,7 +136,7 @@ impl Actor {
     }
 
     /// Hands the answer to the open want: a value is laid down anew, and a message is a new object; an error is raised in the next step of
-    /// the call that asked. After `NoMemory` the actor has no further step.
+    /// the call that asked. After `NoMemory` the actor is as before, and nothing more is said of the heap.
     pub fn resume(
         &mut self,
         alloc: Global,
@@ -125,6 +146,7 @@ impl Actor {
         requires waits { self.old.phase ≡ Waits }
         requires there { 0 < length self.old.frames }
         ensures resumes { OnOk result ((image : Image) → Resumes image heap.old self.old heap.new self.new answer.now) }
+        ensures unchanged { OnErr result (self.new ≡ self.old) }
         ensures shares { heap.new.shares ≡ heap.old.shares }
     {
         match answer {
@@ -148,6 +170,7 @@ impl Actor {
     fn receive(&mut self, heap: &mut Heap, v: Value) -> Result<(), NoMemory>
         requires { 0 < length self.old.frames }
         ensures receives { OnOk result (Receives heap.old self.old heap.new self.new v) }
+        ensures unchanged { OnErr result (self.new ≡ self.old) }
         ensures shares { heap.new.shares ≡ heap.old.shares }
     {
         land(heap, &mut self.frames, v)?;

@@ -3,6 +3,7 @@
 
 mod actor;
 mod answers;
+mod first;
 mod home;
 
 pub use actor::Actor;
