@@ -1,5 +1,5 @@
 -- Answers to an open want.
-use Rattle.std.proofs.Common.{◌≡◌, ℕ, ◌+◌, ◌<◌, List, [], ◌∷◌, ◌++◌, length, map, Result, refl, sym, ap, ◌∙◌, subst, arith}
+use Rattle.std.proofs.Common.{◌≡◌, ◌+◌, ◌<◌, List, [], ◌∷◌, ◌++◌, length, map, Result, refl, sym, ap, ◌∙◌, subst, arith}
 use Rattle.std.specs.Prelude.{OnOk}
 use Rattle.chan_values.specs.declared.error_code.ErrorCode.{ErrorCode}
 use Rattle.chan_values.specs.declared.message.Message.{Message}
@@ -10,25 +10,23 @@ use Rattle.heap_meaning.specs.Values.{Value, StoreValue, Reference}
 use Rattle.heap_meaning.specs.Store.{MessageObject, Store}
 use Rattle.heap_meaning.specs.Cells.{occurrence}
 use Rattle.heap_meaning.specs.Stands.{Naming, meaning}
-use Rattle.heap_meaning.specs.Heap.{Heap, Made, MakesObject, Moves, no_references, references_of}
+use Rattle.heap_meaning.specs.Heap.{Heap, Made, MakesObject}
 use Rattle.heap_meaning.proofs.Steps.{stands_same}
 use Rattle.brs_meaning.specs.Locals as l
 use Rattle.machine_meaning.specs.Image.{Image}
 use Rattle.machine_meaning.specs.Frame as mm
 use Rattle.machine_meaning.specs.Stepping as st
 use Rattle.machine_meaning.specs.Answering as s
-use Rattle.frame_stack.specs.declared.header.CallHead.{CallHead}
 use Rattle.frame_stack.specs.declared.header.Landing.{Landing}
 use Rattle.frame_stack.specs.declared.header.Landing.TheVariants.{Operands, Nowhere}
 use Rattle.frame_stack.specs.Operand.{Holds}
-use Rattle.frame_stack.specs.Frame.{Frame, with_operand, changed, innermost}
+use Rattle.frame_stack.specs.Frame.{Frame, with_operand}
 use Rattle.call_release.specs.References.{call_references}
 use Rattle.frame_actions.proofs.Moving.{on_ok_then}
 use Rattle.actor_meaning.specs.declared.outcome.Answer.{Answer}
 use Rattle.actor_meaning.specs.declared.outcome.Answer.TheVariants as n
-use Rattle.actor_meaning.specs.declared.phase.Phase.{Phase}
 use Rattle.actor_meaning.specs.declared.phase.Phase.TheVariants.{Works, Waits, Fails}
-use Rattle.actor_meaning.specs.View.{Actor, held, home_meaning, home_references, landing_meaning, FrameIs, SuspendedAre, MachineIs, ActorIs}
+use Rattle.actor_meaning.specs.View.{Actor, held, home_meaning, home_references, landing_meaning, FrameIs, SuspendedAre, MachineIs}
 use Rattle.actor_meaning.specs.Promises.{SeenAs, Resumes}
 use Rattle.actor_meaning.proofs.Naming.{calls_same, homes_agree}
 use Rattle.actor_meaning.proofs.Moves.{operand_more}

@@ -1,17 +1,16 @@
 -- A value that comes back to the innermost call, and what the heap stands for then.
-use Rattle.std.proofs.Common.{◌≡◌, ℕ, ◌+◌, ◌<◌, List, [], ◌∷◌, length, Result, Ok, Err, refl, sym, ap, ◌∙◌, subst, arith}
+use Rattle.std.proofs.Common.{◌≡◌, ℕ, ◌+◌, ◌<◌, List, [], ◌∷◌, length, Result, Ok, Err, refl, sym, ap, ◌∙◌, arith}
 use Rattle.std.specs.Prelude.{IfSome, OnOk}
 use Rattle.heap_meaning.specs.Values.{Value}
 use Rattle.heap_meaning.specs.Cells.{occurrence}
 use Rattle.heap_meaning.specs.Heap.{Heap, Moves, no_references, references_of}
 use Rattle.heap_meaning.proofs.Steps.{stands_same}
 use Rattle.frame_stack.specs.declared.header.CallHead.{CallHead}
-use Rattle.frame_stack.specs.declared.header.Landing.{Landing}
 use Rattle.frame_stack.specs.declared.header.Landing.TheVariants.{Operands, Nowhere}
 use Rattle.frame_stack.specs.Operand.{Holds}
 use Rattle.frame_stack.specs.Frame.{Frame, innermost, changed, with_operand}
 use Rattle.call_release.specs.References.{call_references}
-use Rattle.brs_machine.specs.Landing.{landed, landed_in, TakesIn, Lands}
+use Rattle.brs_machine.specs.Landing.{landed, landed_in, Lands}
 
 pushed_in : (v : Value) (frames : List Frame) (head : CallHead) → IfSome (innermost frames) (λ x. head ≡ x.head) → head.landing ≡ Operands → changed (with_operand (Holds v)) frames ≡ landed_in v frames
 pushed_in v [] head i e = refl

@@ -1,5 +1,5 @@
 -- An actor, and what the calls on it say and change that read no code.
-use Rattle.std.specs.Prelude.{◌≡◌, ℕ, Bool, true, false, List, [], ◌∷◌, ◌++◌, length, Option, Some, None, slice_get, slice_set}
+use Rattle.std.specs.Prelude.{◌≡◌, ℕ, Bool, true, false, List, [], ◌∷◌, ◌++◌, Option, Some, None, slice_get, slice_set}
 use Rattle.chan_values.specs.declared.place.Place.{Place}
 use Rattle.chan_values.specs.Tree.{Tree}
 use Rattle.copy_meaning.specs.Laying.{with_tree, value_of_tree}
@@ -12,7 +12,7 @@ use Rattle.machine_meaning.specs.Image.{Image}
 use Rattle.machine_meaning.specs.Frame as mm
 use Rattle.frame_stack.specs.Frame.{Frame}
 use Rattle.actor_meaning.specs.declared.phase.Phase.{Phase}
-use Rattle.actor_meaning.specs.declared.phase.Phase.TheVariants.{Works, Waits, Fails}
+use Rattle.actor_meaning.specs.declared.phase.Phase.TheVariants.{Waits}
 use Rattle.actor_meaning.specs.View.{Home, Actor, ActorIs}
 use Rattle.actor_meaning.specs.Promises.{SeenAs}
 

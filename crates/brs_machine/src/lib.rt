@@ -5,6 +5,7 @@ mod actor;
 mod answers;
 mod first;
 mod home;
+pub mod laws;
 
 pub use actor::Actor;
 pub use home::HomeId;

@@ -1,6 +1,3 @@
-use Rattle.std.proofs.Common.{◌≡◌, rules, subst, sym}
-use Rattle.std.specs.Prelude.{OnOk}
-use Rattle.brs_machine.specs.Landing.{Lands}
 use Rattle.brs_machine.proofs.Landings.{pushed, released}
 use Rattle.brs_machine.proofs.answers.land.Goals as goal
 

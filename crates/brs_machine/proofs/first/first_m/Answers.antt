@@ -1,4 +1,4 @@
-use Rattle.std.proofs.Common.{◌≡◌, ◌∙◌, take, arith}
+use Rattle.std.proofs.Common.{◌∙◌, take, arith}
 use Rattle.std.proofs.lemmas.List.{length-map, length-take}
 use Rattle.chan_values.specs.Tree.{TreePair, keys_of, values_of}
 use Rattle.chan_values.specs.View.{tree_pair_of}

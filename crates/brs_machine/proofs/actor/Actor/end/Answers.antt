@@ -1,4 +1,4 @@
-use Rattle.std.proofs.Common.{◌≡◌, ap, subst}
+use Rattle.std.proofs.Common.{subst}
 use Rattle.heap_meaning.specs.Heap.{Moves, no_references}
 use Rattle.call_release.specs.References.{call_references}
 use Rattle.actor_meaning.specs.View.{Actor, home_references}

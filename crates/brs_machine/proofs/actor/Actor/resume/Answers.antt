@@ -1,4 +1,4 @@
-use Rattle.std.proofs.Common.{◌≡◌, sym, subst}
+use Rattle.std.proofs.Common.{sym, subst}
 use Rattle.heap_meaning.specs.Heap.{MakesObject}
 use Rattle.heap_meaning.specs.Store.{MessageObject}
 use Rattle.machine_meaning.specs.Image.{Image}
