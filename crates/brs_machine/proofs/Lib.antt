@@ -1,0 +1,4 @@
+pub mod Answering
+pub mod Homes
+pub mod Landings
+pub mod Telling
