@@ -1,0 +1,2 @@
+-- Characters of texts.
+pub use Rattle.std.proofs.lemmas.Str.{chars_from_encodes}
