@@ -1,0 +1,3 @@
+pub mod Landed
+pub mod Departed
+pub mod Left
