@@ -1,5 +1,5 @@
 -- What each function of a call promises, from its row.
-use Rattle.std.proofs.Common.{◌≡◌, ℕ, ◌+◌, ◌<◌, List, ◌∷◌, length, map, Some, None, refl, sym, ap, ◌∙◌}
+use Rattle.std.proofs.Common.{◌≡◌, ℕ, ◌+◌, ◌<◌, List, length, map, Some, None, refl, sym, ap, ◌∙◌}
 use Rattle.std.specs.Prelude.{slice_get}
 use Rattle.chan_values.specs.declared.error_code.ErrorCode.{ErrorCode}
 use Rattle.chan_values.specs.declared.error_code.ErrorCode.TheVariants.{E5}
@@ -19,7 +19,7 @@ use Rattle.frame_stack.specs.Frame.{Frame, operands_of}
 use Rattle.actor_meaning.specs.View.{Home}
 use Rattle.instruction_effects.specs.declared.effect.Effect.{Effect}
 use Rattle.instruction_effects.specs.declared.effect.Effect.TheVariants as e
-use Rattle.instruction_effects.specs.Effects.{Runs, FaultedWhere}
+use Rattle.instruction_effects.specs.Effects.{Runs}
 use Rattle.call_decisions.specs.declared.member_call.MemberCall.TheVariants as m
 use Rattle.call_decisions.specs.declared.built_in.BuiltInCall.TheVariants as b
 use Rattle.call_decisions.specs.Functions.{number_of}

@@ -1,5 +1,5 @@
 -- From an operation on the arguments of a call to the instruction's effect.
-use Rattle.std.proofs.Common.{◌≡◌, ℕ, ◌+◌, ◌<◌, ◌≤◌, List, [], ◌∷◌, length, reverse, take, map, refl, sym, ap, ◌∙◌, subst, arith}
+use Rattle.std.proofs.Common.{◌≡◌, ℕ, ◌+◌, ◌<◌, List, [], ◌∷◌, length, reverse, take, map, refl, sym, ap, ◌∙◌, subst, arith}
 use Rattle.chan_values.specs.declared.error_code.ErrorCode.{ErrorCode}
 use Rattle.heap_meaning.specs.Values.{Value}
 use Rattle.heap_meaning.specs.Store.{Store}
@@ -7,7 +7,7 @@ use Rattle.heap_meaning.specs.Cells.{occurrences}
 use Rattle.heap_meaning.specs.Stands.{Naming, Outside, meaning, Stands}
 use Rattle.heap_meaning.specs.Heap.{Heap}
 use Rattle.object_operations.specs.Answer.{Answer, Gives, Raises}
-use Rattle.object_operations.specs.Applies.{Applies, Answers, AreOut}
+use Rattle.object_operations.specs.Applies.{Applies, Answers}
 use Rattle.object_operations.specs.declared.applied.Applied.TheVariants as a
 use Rattle.brs_code.specs.declared.instr.Instr.{Instr}
 use Rattle.brs_builtins.specs.declared.operation.Operation.{Operation}

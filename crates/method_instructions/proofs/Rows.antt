@@ -22,7 +22,7 @@ use Rattle.machine_meaning.specs.Setting.{Setting, gives, with_text}
 use Rattle.machine_meaning.specs.Calls.{called, called_with, member_called_with}
 use Rattle.machine_meaning.specs.Instructions.{acted}
 use Rattle.machine_meaning.specs.Stepping.{setting_of}
-use Rattle.frame_stack.specs.Frame.{Frame, innermost, operands_of}
+use Rattle.frame_stack.specs.Frame.{Frame, operands_of}
 use Rattle.actor_meaning.specs.View.{Home, held, ActorIs, FrameIs}
 use Rattle.actor_meaning.specs.Performed.{working}
 use Rattle.instruction_effects.specs.Effects.{Runs}

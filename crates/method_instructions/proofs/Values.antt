@@ -1,9 +1,8 @@
 -- The values that a call takes, in the order in which they were pushed.
-use Rattle.std.proofs.Common.{◌≡◌, ℕ, suc, ◌+◌, ◌<◌, ◌≤◌, List, [], ◌∷◌, ◌++◌, length, reverse, take, map, refl, sym, ap, ◌∙◌, arith}
-use Rattle.std.specs.Prelude.{slice_index_or}
+use Rattle.std.proofs.Common.{◌≡◌, ℕ, suc, ◌+◌, ◌<◌, List, [], ◌∷◌, length, reverse, take, map, sym, ap, ◌∙◌, arith}
 use Rattle.std.proofs.lemmas.List.{reverse-reverse, reverse-append}
 use Rattle.std.proofs.Math.Seq.{take-suc}
-use Rattle.heap_meaning.specs.Values.{Value, StoreValue, filler}
+use Rattle.heap_meaning.specs.Values.{Value, filler}
 use Rattle.heap_meaning.specs.Stands.{Naming, meaning}
 use Rattle.heap_meaning.proofs.Lists.{map_length}
 use Rattle.object_operations.specs.Applies.{AreOut}

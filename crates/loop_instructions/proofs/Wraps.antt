@@ -1,0 +1,2 @@
+-- Results that wrap.
+pub use Rattle.std.proofs.lemmas.Int.{wraps}
