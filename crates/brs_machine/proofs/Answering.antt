@@ -9,7 +9,7 @@ use Rattle.copy_meaning.specs.Laying.{LaysDown, with_tree, value_of_tree}
 use Rattle.heap_meaning.specs.Values.{Value, StoreValue, Reference}
 use Rattle.heap_meaning.specs.Store.{MessageObject, Store}
 use Rattle.heap_meaning.specs.Cells.{occurrence}
-use Rattle.heap_meaning.specs.Stands.{Naming, meaning}
+use Rattle.heap_meaning.specs.Stands.{Naming}
 use Rattle.heap_meaning.specs.Heap.{Heap, Made, MakesObject}
 use Rattle.heap_meaning.proofs.Steps.{stands_same}
 use Rattle.brs_meaning.specs.Locals as l
@@ -17,29 +17,18 @@ use Rattle.machine_meaning.specs.Image.{Image}
 use Rattle.machine_meaning.specs.Frame as mm
 use Rattle.machine_meaning.specs.Stepping as st
 use Rattle.machine_meaning.specs.Answering as s
-use Rattle.frame_stack.specs.declared.header.Landing.{Landing}
-use Rattle.frame_stack.specs.declared.header.Landing.TheVariants.{Operands, Nowhere}
-use Rattle.frame_stack.specs.Operand.{Holds}
-use Rattle.frame_stack.specs.Frame.{Frame, with_operand}
+use Rattle.frame_stack.specs.Frame.{Frame}
 use Rattle.call_release.specs.References.{call_references}
 use Rattle.frame_actions.proofs.Moving.{on_ok_then}
 use Rattle.actor_meaning.specs.declared.outcome.Answer.{Answer}
 use Rattle.actor_meaning.specs.declared.outcome.Answer.TheVariants as n
 use Rattle.actor_meaning.specs.declared.phase.Phase.TheVariants.{Works, Waits, Fails}
-use Rattle.actor_meaning.specs.View.{Actor, held, home_meaning, home_references, landing_meaning, FrameIs, SuspendedAre, MachineIs}
+use Rattle.actor_meaning.specs.View.{Actor, held, home_meaning, home_references, FrameIs, SuspendedAre, MachineIs}
 use Rattle.actor_meaning.specs.Promises.{SeenAs, Resumes}
 use Rattle.actor_meaning.proofs.Naming.{calls_same, homes_agree}
-use Rattle.actor_meaning.proofs.Moves.{operand_more}
-use Rattle.brs_machine.specs.Landing.{landed, landed_in, Receives}
-
--- ---- the call that waited
-
-frame_landed : (image : Image) (name : Naming) (x : Frame) (frame : mm.Frame) (v : Value) (w : StoreValue) (to : Landing) (to' : mm.Landing) → to' ≡ landing_meaning to → meaning name v ≡ w → FrameIs image name x frame
-    → FrameIs image name (landed to v x) (st.landed w to' frame)
-frame_landed image name x frame v w Operands mm.OnOperands e shows i = subst (λ u. FrameIs image name (with_operand (Holds v) x) (mm.with_operands (mm.Holds u ∷ frame.operands) frame)) shows (operand_more image name x frame (Holds v) i)
-frame_landed image name x frame v w Nowhere mm.Nowhere e shows i = i
-frame_landed image name x frame v w Operands mm.Nowhere e shows i = absurd cc
-frame_landed image name x frame v w Nowhere mm.OnOperands e shows i = absurd cc
+use Rattle.return_instructions.specs.Landed.{landed, Lands}
+use Rattle.return_instructions.proofs.Landings.{landed_seen}
+use Rattle.brs_machine.specs.Receiving.{Receives}
 
 -- ---- the actor
 
@@ -48,9 +37,10 @@ module _ (image : Image) (h1 h2 : Heap) (old new : Actor) (v : Value) (r : Recei
       → old.frames ≡ x ∷ frames → homes ≡ map (home_meaning name) old.homes → SuspendedAre image name (x ∷ frames) (h ∷ below)
       → Made name h1 store (held old) (λ k. occurrence k v + held old k) v w → SeenAs image h2 new homes (st.filled w h below) store
   seen name homes x frames h below store w e homes_are calls made =
+      let lands = subst (λ fs. Lands v fs new.frames) e r.lands in
       let same = calls_same name made.naming (held old) made.agrees image (x ∷ frames) (h ∷ below) (λ k. let y : call_references k old.frames ≡ call_references k (x ∷ frames) = ap (call_references k) e in omega arith) calls in
       let before = stands_same made.naming h1.cells store (λ k. occurrence k v + held old k) (λ k. home_references k old.homes + (occurrence k v + call_references k old.frames)) made.stands (λ k. omega arith) in
-      let after = r.lands.takes_in made.naming store (λ k. home_references k old.homes) before in
+      let after = r.settles made.naming store (λ k. home_references k old.homes) before in
       record {
         naming = made.naming;
         is = record {
@@ -58,8 +48,8 @@ module _ (image : Image) (h1 h2 : Heap) (old new : Actor) (v : Value) (r : Recei
           homes_are = homes_are ∙ sym (homes_agree name made.naming (held old) made.agrees old.homes (λ k. omega arith)) ∙ sym (ap (map (home_meaning made.naming)) r.homes);
           machine_is =
               subst (λ p. MachineIs image made.naming p new.frames (st.filled w h below)) (sym r.phase)
-              (subst (λ fs. MachineIs image made.naming Works fs (st.filled w h below)) (sym (r.lands.frames ∙ ap (landed_in v) e))
-              (frame_landed image made.naming x h.frame v w x.head.landing h.landing same.0.landing made.shows same.0.frame, same.1));
+              (subst (λ fs. MachineIs image made.naming Works fs (st.filled w h below)) (sym lands)
+              (subst (λ u. FrameIs image made.naming (landed x.head.landing v x) (st.landed u h.landing h.frame)) made.shows (landed_seen image made.naming x h v same.0), same.1));
         };
       }
 

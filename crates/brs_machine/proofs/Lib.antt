@@ -1,4 +1,3 @@
 pub mod Answering
 pub mod Homes
-pub mod Landings
 pub mod Telling

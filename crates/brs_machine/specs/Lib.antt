@@ -1,3 +1,3 @@
 pub mod Actors
-pub mod Landing
+pub mod Receiving
 pub mod Told

@@ -5,10 +5,9 @@ ghost use Rattle.machine_meaning.specs.Image.{Image};
 ghost use Rattle.actor_meaning.specs.declared.phase.Phase.TheVariants.{Waits};
 ghost use Rattle.actor_meaning.specs.Promises.{Resumes, Ends};
 ghost use Rattle.brs_machine.specs.Actors.{begun, AddsHome, with_scope, idle, at_work, wanting, place_of, home_of};
-ghost use Rattle.brs_machine.specs.Landing.{Receives};
+ghost use Rattle.brs_machine.specs.Receiving.{Receives};
 
 use crate::HomeId;
-use crate::answers::land;
 use crate::first::first_m;
 use crate::home::{Home, push_home, release_homes};
 use actor_meaning::{Answer, Phase};
@@ -17,6 +16,7 @@ use brs_heap::{Heap, Value};
 use call_release::release_calls;
 use chan_values::{NoMemory, PairList, Place, copy_message};
 use frame_stack::FrameStack;
+use return_instructions::land;
 use std::alloc::Global;
 use std::marker::Model;
 

@@ -2,7 +2,6 @@
 #![tactic(auto)]
 
 mod actor;
-mod answers;
 mod first;
 mod home;
 pub mod laws;

@@ -1,5 +1,5 @@
 //! Values that a call waited for.
-ghost use Rattle.std.specs.Prelude.{◌≡◌, ◌<◌, length, OnOk};
+ghost use Rattle.std.specs.Prelude.{◌≡◌, ◌<◌, length, OnOk, OnErr};
 ghost use Rattle.return_instructions.specs.Landed.{Lands, Settles};
 
 use brs_heap::{Heap, Value};
@@ -12,6 +12,7 @@ pub fn land(heap: &mut Heap, frames: &mut FrameStack, v: Value) -> Result<(), No
     requires { 0 < length frames.old }
     ensures lands { OnOk result (Lands v frames.old frames.new) }
     ensures settles { OnOk result (Settles v heap.old frames.old heap.new frames.new) }
+    ensures err { OnErr result (frames.new ≡ frames.old) }
     ensures shares { heap.new.shares ≡ heap.old.shares }
 {
     let head = frames.head();
