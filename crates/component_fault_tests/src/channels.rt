@@ -24,6 +24,29 @@ pub(crate) fn add(
     components.push(PathedComponent { path: name, file }).ok()
 }
 
+/// Adds a component with a base and child elements.
+pub(crate) fn add_kind(
+    alloc: Global,
+    components: &mut Vec<PathedComponent>,
+    name: &str,
+    base: &str,
+    children: &str,
+) -> Option<()> {
+    let mut text = String::new(alloc);
+    for part in [
+        "<component name='",
+        name,
+        "' extends='",
+        base,
+        "'><children>",
+        children,
+        "</children></component>",
+    ] {
+        text.push_str(part).ok()?;
+    }
+    add(alloc, components, name, text.as_str())
+}
+
 /// The components of two files.
 pub(crate) fn channel(alloc: Global, a: &str, b: &str) -> Option<Vec<PathedComponent>> {
     let mut components = Vec::new(alloc);

@@ -1,5 +1,5 @@
 //! What no clause says: with ample memory components that are reached from themselves are found, and no others.
-use crate::channels::{Found, add, add_chain, is_answer};
+use crate::channels::{Found, add_chain, add_kind, is_answer};
 use component_cycles::check_cycles;
 use component_faults::kind_table;
 use folder_rules::{PathedComponent, TablesAnswer};
@@ -8,29 +8,6 @@ use std::alloc::Global;
 fn check(alloc: Global, components: &[PathedComponent]) -> Result<(), TablesAnswer> {
     let names = kind_table(alloc, components)?;
     check_cycles(alloc, &names, components)
-}
-
-/// Adds a component with a base and child elements.
-fn add_kind(
-    alloc: Global,
-    components: &mut Vec<PathedComponent>,
-    name: &str,
-    base: &str,
-    children: &str,
-) -> Option<()> {
-    let mut text = String::new(alloc);
-    for part in [
-        "<component name='",
-        name,
-        "' extends='",
-        base,
-        "'><children>",
-        children,
-        "</children></component>",
-    ] {
-        text.push_str(part).ok()?;
-    }
-    add(alloc, components, name, text.as_str())
 }
 
 /// Whether a channel of these components, each with a base and child elements, is answered so.

@@ -1,4 +1,4 @@
-//! The tests of the faults of a channel's components.
+//! The tests of the faults of a channel's components, and of their order.
 //!
 //! They stand in a crate of their own, since a crate with tests is proved twice.
 #![tactic(auto)]
@@ -11,3 +11,5 @@ mod cycle_tests;
 mod field_tests;
 #[cfg(test)]
 mod kind_tests;
+#[cfg(test)]
+mod order_tests;
