@@ -1,8 +1,7 @@
 -- No opening value of a field and no value of an attribute names a node.
-use Rattle.std.proofs.Common.{◌≡◌, ◌⊎◌, ℕ, false, List, [], ◌∷◌, ◌++◌, map, Option, Some, None, refl, sym, ap, ◌∙◌, subst, inl, inr}
+use Rattle.std.proofs.Common.{◌≡◌, ℕ, false, List, [], ◌∷◌, ◌++◌, map, Option, Some, None, refl, sym, ap, ◌∙◌, subst, inl, inr}
 use Rattle.std.specs.List.{AllByRecursion, flat_map}
 use Rattle.chan_values.specs.Tree.{Tree}
-use Rattle.chan_values.specs.View.{tree_of}
 use Rattle.component_files.specs.declared.element.FieldElement.{FieldElement}
 use Rattle.field_types.specs.Attribute.{Reads}
 use Rattle.field_types.specs.NamedNodes.{nodes_in}

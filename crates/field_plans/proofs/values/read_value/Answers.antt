@@ -14,4 +14,4 @@ pub returns-in-Err-BadText : goal.returns-in-Err-BadText
 returns-in-Err-BadText c =
     let bytes = c.as_bytes.result.now in
     subst (λ text. None ≡ value_read c.args.holds text) c.as_bytes.ensures.value
-    (sym (not_read c.args.holds bytes (subst (λ e. Answers c.args.holds bytes (Err e)) c.in-Err-BadText.is c.in-Err-BadText.ensures)))
+    (sym (not_read c.args.holds bytes (subst (λ e. Answers c.args.holds bytes (Err e)) c.in-Err-BadText.field-0-is c.in-Err-BadText.ensures)))
