@@ -1,20 +1,21 @@
 -- A table of plans with the plan of one component more.
 use Rattle.std.proofs.Common.{◌≡◌, ℕ, zero, suc, ◌+◌, ◌<◌, ◌≤◌, Bool, true, false, cond, List, [], ◌∷◌, ◌++◌, Option, Some, None, length, map, take, get_or, refl, sym, ap, ◌∙◌, arith, subst, append_assoc}
 use Rattle.std.specs.Prelude.{slice_get, if◌then◌else◌}
-use Rattle.std.specs.List.{filter_map, cons_option}
+use Rattle.std.specs.List.{cons_option}
 use Rattle.std.specs.Option.{option_to_list}
 use Rattle.std.specs.Str.{bytes_eq}
 use Rattle.std.proofs.lemmas.List.{append-nil, map-append, take_more, length-append}
 use Rattle.std.proofs.lemmas.List.Elements.{filter_map-append}
 use Rattle.field_types.specs.declared.plans.KindPlan.{KindPlan}
 use Rattle.folder_rules.specs.Kinds.{Kind, built_in_names, component_name, kind_names}
-use Rattle.folder_rules.specs.Names.{either, number_in, place_from, place_of, HasPlaces}
+use Rattle.folder_rules.specs.Names.{either, number_in, place_from, HasPlaces}
 use Rattle.folder_rules.specs.declared.component.PathedComponent.{PathedComponent}
 use Rattle.folder_rules.specs.declared.names.NameTable.{NameTable}
 use Rattle.folder_rules.proofs.Tables.{places_more}
 use Rattle.kind_plans.specs.Filling.{HasPlansOf}
 use Rattle.kind_plans.specs.Places.{AreBelow}
-use Rattle.kind_plans.specs.Plans.{Plan, built_in_plans, component_plan, component_plans, components_at, plan_of}
+use Rattle.field_types.specs.Plans.{IsBase}
+use Rattle.kind_plans.specs.Plans.{BuiltInRow, AreBehindBases, row_plan, built_in_plans, component_plan, component_plans, components_at, plan_of}
 
 -- ---- components one after another
 
@@ -87,11 +88,9 @@ filled_more kinds before c places after table more place is plans added has = re
       ∙ ap (λ l. built_in_plans ++ l) (sym (plans_more kinds [] before c));
 }
 
-pub at_more : (cs : List PathedComponent) (order : List ℕ) (i at : ℕ) → i < length order → at ≡ get_or order i at → components_at cs (take (i + 1) order) ≡ components_at cs (take i order) ++ option_to_list (slice_get cs at)
-at_more cs order i at h e =
-    ap (components_at cs) (take_more order i at h) ∙ filter_map-append (slice_get cs) (take i order) (get_or order i at ∷ [])
-    ∙ ap (λ k. components_at cs (take i order) ++ filter_map (slice_get cs) (k ∷ [])) (sym e)
-    ∙ ap (λ l. components_at cs (take i order) ++ l) (one (slice_get cs at))
+pub at_more : (cs : List PathedComponent) (order : List ℕ) (i d : ℕ) → i < length order → components_at cs (take (i + 1) order) ≡ components_at cs (take i order) ++ option_to_list (slice_get cs (get_or order i d))
+at_more cs order i d h =
+    ap (components_at cs) (take_more order i d h) ∙ filter_map-append (slice_get cs) (take i order) (get_or order i d ∷ []) ∙ ap (λ l. components_at cs (take i order) ++ l) (one (slice_get cs (get_or order i d)))
   where
     one : (o : Option PathedComponent) → cons_option o [] ≡ option_to_list o
     one None = refl
@@ -113,3 +112,30 @@ taken_length (k ∷ order) (suc i) = let h = taken_length order i in omega arith
 
 pub at_few : (cs : List PathedComponent) (order : List ℕ) (i : ℕ) → length (components_at cs (take i order)) ≤ i
 at_few cs order i = let a = at_length cs (take i order) in let b = taken_length order i in omega arith
+
+-- ---- the built-in kinds
+
+base_at : (n i : ℕ) (rows : List BuiltInRow) (d : BuiltInRow) → AreBehindBases n rows → i < length rows → IsBase (n + i) (get_or rows i d).0.now (get_or rows i d).1
+base_at n i [] d a h = absurd (omega arith)
+base_at n zero (row ∷ rows) d a h = subst (λ k. IsBase k row.0.now row.1) (omega arith) a.0
+base_at n (suc i) (row ∷ rows) d a h = let b = base_at (n + 1) i rows d a.1 (omega arith) in subst (λ k. IsBase k (get_or rows i d).0.now (get_or rows i d).1) (omega arith) b
+
+taken_whole : {A : Type 0} (i : ℕ) (xs : List A) → i < length xs → length (take i xs) ≡ i
+taken_whole i [] h = absurd (omega arith)
+taken_whole zero (x ∷ xs) h = refl
+taken_whole (suc i) (x ∷ xs) h = ap suc (taken_whole i xs (omega arith))
+
+pub built_in_base : (rows : List BuiltInRow) (i : ℕ) (d : BuiltInRow) (table : List KindPlan) → AreBehindBases 0 rows → i < length rows → map plan_of table ≡ map row_plan (take i rows) → IsBase (length table) (get_or rows i d).0.now (get_or rows i d).1
+built_in_base rows i d table a h filled =
+    let e : i ≡ length table = sym (sym (map_length plan_of table) ∙ ap length filled ∙ map_length row_plan (take i rows) ∙ taken_whole i rows h) in
+    subst (λ n. IsBase n (get_or rows i d).0.now (get_or rows i d).1) e (subst (λ n. IsBase n (get_or rows i d).0.now (get_or rows i d).1) (omega arith) (base_at 0 i rows d a h))
+
+-- ---- none more
+
+pub filled_same : (kinds : List Kind) (before : List PathedComponent) (o : Option PathedComponent) (places : NameTable) (table : List KindPlan) → o ≡ None → HasPlansOf kinds before places table → HasPlansOf kinds (before ++ option_to_list o) places table
+filled_same kinds before o places table e has = subst (λ l. HasPlansOf kinds l places table) (sym (ap (λ o. before ++ option_to_list o) e ∙ append-nil before)) has
+
+pub filled_length : (kinds : List Kind) (cs : List PathedComponent) (order : List ℕ) (i : ℕ) (places : NameTable) (table : List KindPlan) → HasPlansOf kinds (components_at cs (take i order)) places table → (8 < length table) × (length table ≤ 9 + i)
+filled_length kinds cs order i places table has =
+    let l = table_length kinds (components_at cs (take i order)) places table has in let f = at_few cs order i in
+    (omega arith, omega arith)

@@ -8,6 +8,6 @@ use Rattle.folder_rules.specs.declared.names.NameTable.{NameTable}
 use Rattle.kind_plans.specs.Plans.{built_in_plans, component_plans, plan_of}
 
 -- the plans and the places of the built-in kinds and of these components
-pub record HasPlansOf (kinds : List Kind) (before : List PathedComponent) (places : NameTable) (table : List KindPlan) : Type 0 where
-  pub places : HasPlaces places (kind_names before)
+pub record HasPlansOf (kinds : List Kind) (before : List PathedComponent) (numbers : NameTable) (table : List KindPlan) : Type 0 where
+  pub places : HasPlaces numbers (kind_names before)
   pub plans : map plan_of table ≡ built_in_plans ++ component_plans kinds [] before

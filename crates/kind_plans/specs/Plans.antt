@@ -1,5 +1,5 @@
 -- The plans of the kinds of a channel.
-use Rattle.std.specs.Prelude.{◌≡◌, ℕ, ◌+◌, List, [], ◌∷◌, ◌++◌, Option, Some, None, codes, map, slice_get, filter_map}
+use Rattle.std.specs.Prelude.{ℕ, ◌+◌, List, [], ◌∷◌, ◌++◌, Option, Some, None, codes, map, slice_get, filter_map}
 use Rattle.std.specs.Borrow.{Bor}
 use Rattle.field_types.specs.Plans.{IsBase}
 use Rattle.field_types.specs.declared.plans.KindPlan.{KindPlan}

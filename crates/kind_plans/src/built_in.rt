@@ -22,11 +22,7 @@ const BUILT_IN: [(&str, Option<u32>, &[(&str, FieldType, &str)]); 9] = [
             ("focusedChild", FieldType::Node, ""),
         ],
     ),
-    (
-        "Group",
-        Some(0),
-        &[("visible", FieldType::Boolean, "true")],
-    ),
+    ("Group", Some(0), &[("visible", FieldType::Boolean, "true")]),
     ("LayoutGroup", Some(1), &[]),
     ("Scene", Some(1), &[]),
     (

@@ -81,7 +81,8 @@ fn add_component(
 {
     let place = table.len();
     push_component(alloc, kinds, places, table, component)?;
-    add_place(alloc, places, component, place)
+    add_place(alloc, places, component, place)?;
+    Ok(())
 }
 
 /// Adds the plan of the component at a place, where there is one.
@@ -98,9 +99,10 @@ fn add_at(
     requires below { AreBelow (length table.old) places.old }
     ensures { OnOk result ((before : List Component) → HasPlansOf kinds.now before places.old table.old → HasPlansOf kinds.now (before ++ option_to_list (slice_get components.now at)) places.new table.new) }
 {
-    match components.get(at) {
-        Some(component) => add_component(alloc, kinds, places, table, component),
-        None => Ok(()),
+    if at < components.len() {
+        add_component(alloc, kinds, places, table, &components[at])
+    } else {
+        Ok(())
     }
 }
 
