@@ -22,7 +22,7 @@ there None = refl
 there (Some x) = refl
 
 module _ (table : NameTable) (cs : List PathedComponent) (has : HasPlaces table (kind_names cs)) (rows : List KindFields) (are : AreRows (kind_names cs) rows (all_kinds cs)) where
-  type_is : (name id : List ℕ) → type_there (field_at rows (number_in table name) id) ≡ type_of (field_named (field_table (all_kinds cs) name) id)
+  pub type_is : (name id : List ℕ) → type_there (field_at rows (number_in table name) id) ≡ type_of (field_named (field_table (all_kinds cs) name) id)
   type_is name id = ap type_there (field_is table cs has rows are name id) ∙ there (field_named (field_table (all_kinds cs) name) id)
 
   of_tag : (path : List ℕ) (tag : ChildTag) → tag_texts table rows path tag ≡ f.tag_texts (all_kinds cs) path tag

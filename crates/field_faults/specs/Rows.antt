@@ -6,7 +6,7 @@ use Rattle.field_types.specs.declared.types.FieldType.{FieldType}
 use Rattle.folder_rules.specs.declared.component.PathedComponent.{PathedComponent}
 use Rattle.folder_rules.specs.declared.names.NameTable.{NameTable}
 use Rattle.folder_rules.specs.FieldFaults.{repeated_ids}
-use Rattle.folder_rules.specs.Kinds.{Field, Kind, base_name}
+use Rattle.folder_rules.specs.Kinds.{Field, Kind, all_kinds, base_name, kind_names}
 use Rattle.folder_rules.specs.Names.{number_in, place_of, HasPlaces}
 use Rattle.field_faults.specs.declared.rows.KindFields.{KindFields}
 
@@ -61,6 +61,11 @@ Each R _ _ = ⊥
 -- rows stand for kinds
 abbrev pub AreRows : List (List ℕ) → List KindFields → List Kind → Type 0
 AreRows names rows kinds = Each (IsRow names) rows kinds
+
+-- a table has the rows of all kinds, and the names of these their places
+pub record HasRowsOf (table : NameTable) (rows : List KindFields) (components : List PathedComponent) : Type 0 where
+  pub places : HasPlaces table (kind_names components)
+  pub are : AreRows (kind_names components) rows (all_kinds components)
 
 -- one row more, at the end
 pub record HasOneMore (before after : List KindFields) (IsLast : KindFields → Type 0) : Type 0 where

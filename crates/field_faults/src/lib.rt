@@ -8,7 +8,9 @@
 
 mod fields;
 mod rows;
+mod table;
 mod values;
 
 pub use fields::check_duplicate_fields;
+pub use table::FieldTable;
 pub use values::check_values;

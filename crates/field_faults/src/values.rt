@@ -147,7 +147,8 @@ fn look_at_attribute(
     )
 }
 
-fn type_there(field: Option<Option<FieldType>>) -> Option<FieldType>
+/// What a field holds, where there is a field and its word is a type.
+pub(crate) fn type_there(field: Option<Option<FieldType>>) -> Option<FieldType>
     ensures { result ≡ spec.type_there field }
 {
     match field {
