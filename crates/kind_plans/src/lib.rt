@@ -1,0 +1,13 @@
+//! The plans by which the nodes of a channel are made: one for each built-in kind, and one for each component.
+//!
+//! Source: SceneGraph XML Guide, "component" and "children".
+#![tactic(auto)]
+
+mod built_in;
+mod children;
+mod nodes;
+mod places;
+mod plans;
+mod table;
+
+pub use table::kind_plans;
