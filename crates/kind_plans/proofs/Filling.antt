@@ -38,7 +38,7 @@ map_length : {A B : Type 0} (f : A → B) (xs : List A) → length (map f xs) �
 map_length f [] = refl
 map_length f (x ∷ xs) = ap suc (map_length f xs)
 
-nine_names : length built_in_names ≡ 9
+pub nine_names : length built_in_names ≡ 9
 unfolding built_in_names
 nine_names = refl
 

@@ -2,3 +2,4 @@ pub mod Children
 pub mod Places
 pub mod Plans
 pub mod Filling
+pub mod Standing

@@ -5,6 +5,7 @@
 
 mod built_in;
 mod children;
+pub mod laws;
 mod nodes;
 mod places;
 mod plans;

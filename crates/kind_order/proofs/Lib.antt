@@ -1,0 +1,9 @@
+pub mod Listed
+pub mod Puts
+pub mod Built
+pub mod Ways
+pub mod Good
+pub mod Marks
+pub mod Walks
+pub mod Rows
+pub mod Stacks
