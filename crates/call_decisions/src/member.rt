@@ -22,6 +22,7 @@ fn is_folded(name: &[u8]) -> bool
 fn held_at<'a>(heap: &'a Heap, v: &Value, name: &[u8]) -> Option<&'a Value>
     ensures { option_copied result ≡ value_in (content_at heap.now v.now) name.now }
 {
+    // The call tells that keys are folded and in order.
     let _first = heap.key_at(v, 0);
     if is_folded(name) {
         heap.get_key(v, name)

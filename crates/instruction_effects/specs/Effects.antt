@@ -29,6 +29,10 @@ Circumstance = Image → (number : ℕ) → List Home → Type 0
 abbrev pub Runs : Function → List Frame → Circumstance
 Runs f frames image number homes = IfSome (innermost frames) (λ x. function_at image x.head.function ≡ Some f)
 
+-- nothing has to be known
+abbrev pub Anywhere : Circumstance
+Anywhere image number homes = Unit {0}
+
 -- in this circumstance the innermost call of an actor at work performed the instruction, and goes on
 abbrev pub PerformedWhere : Circumstance → (old : Heap) → (before : List Frame) → (new : Heap) → (after : List Frame) → Outcome → Instr → Type 0
 PerformedWhere C old before new after shown instr =
@@ -50,3 +54,7 @@ abbrev pub Does : Circumstance → (line : ℕ) → (old : Heap) → (before : L
 Does C line old before new after e.Went instr = PerformedWhere C old before new after Went instr
 Does C line old before new after (e.Raises error) instr = FaultedWhere C old before error instr × Carries old before new after × (path_of after ≡ path_of before)
 Does C line old before new after (e.Asks request) instr = AsksWhere C line old before new after (Wants request) instr
+
+-- the effect of an instruction that has to know nothing, whatever its line is
+abbrev pub DoesAnywhere : (old : Heap) → (before : List Frame) → (new : Heap) → (after : List Frame) → Effect → Instr → Type 0
+DoesAnywhere old before new after effect instr = (line : ℕ) → Does Anywhere line old before new after effect instr

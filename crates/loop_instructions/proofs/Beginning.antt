@@ -34,7 +34,7 @@ use Rattle.instruction_effects.specs.declared.effect.Effect.TheVariants as e
 use Rattle.loop_instructions.specs.declared.numbers.Number.{Number}
 use Rattle.loop_instructions.specs.declared.numbers.Number.TheVariants as n
 use Rattle.loop_instructions.specs.declared.numbers.Range.{Range}
-use Rattle.loop_instructions.specs.Anywhere.{DoesAnywhere}
+use Rattle.instruction_effects.specs.Effects.{DoesAnywhere}
 use Rattle.loop_instructions.specs.Numbers.{number_at, plain_number, range_in}
 use Rattle.loop_instructions.specs.Changes.{begun}
 use Rattle.loop_instructions.proofs.Finding.{LastTwo, last_two, LastThree, last_three, found_is, Are, range_is}

@@ -17,7 +17,7 @@ use Rattle.actor_meaning.specs.declared.outcome.Outcome.TheVariants.{Went}
 use Rattle.actor_meaning.specs.Performed.{Performed, Faulted}
 use Rattle.instruction_effects.specs.declared.effect.Effect.TheVariants as e
 use Rattle.loop_instructions.specs.declared.numbers.Number.{Number}
-use Rattle.loop_instructions.specs.Anywhere.{DoesAnywhere}
+use Rattle.instruction_effects.specs.Effects.{DoesAnywhere}
 use Rattle.loop_instructions.specs.Numbers.{number_at, plain_number, integer}
 use Rattle.loop_instructions.proofs.Finding.{Found}
 use Rattle.loop_instructions.proofs.Meaning.{value_means, slot_means, number_means}

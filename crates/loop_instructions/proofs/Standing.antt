@@ -32,7 +32,7 @@ use Rattle.moving_instructions.proofs.Going.{GoesOn, performs, behind_of, operan
 use Rattle.instruction_effects.specs.declared.effect.Effect.TheVariants as e
 use Rattle.loop_instructions.specs.declared.numbers.Number.{Number}
 use Rattle.loop_instructions.specs.declared.numbers.Range.{Range}
-use Rattle.loop_instructions.specs.Anywhere.{DoesAnywhere}
+use Rattle.instruction_effects.specs.Effects.{DoesAnywhere}
 use Rattle.loop_instructions.specs.Numbers.{number_at, plain_number, integer, range_in, sum, sum_in}
 use Rattle.loop_instructions.specs.Changes.{with_number, turned}
 use Rattle.loop_instructions.proofs.Finding.{LastTwo, last_two, number_at_is, found_is, Are, range_is, Added, sum_is}

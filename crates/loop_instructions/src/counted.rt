@@ -3,7 +3,7 @@ ghost use Rattle.std.specs.Prelude.{◌≡◌, ◌<◌, ◌≤◌, length, IfOk}
 ghost use Rattle.frame_stack.specs.Frame.{operands_of, slots_of};
 ghost use Rattle.brs_code.specs.declared.instr.Instr.TheVariants as i;
 ghost use Rattle.moving_instructions.specs.Behind.{HasPlaceBehind};
-ghost use Rattle.loop_instructions.specs.Anywhere.{DoesAnywhere};
+ghost use Rattle.instruction_effects.specs.Effects.{DoesAnywhere};
 
 use crate::changes::{begin, set_number, turn};
 use crate::numbers::{Number, goes_on, range_of, sum_of};

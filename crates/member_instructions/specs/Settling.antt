@@ -15,13 +15,8 @@ use Rattle.frame_actions.specs.Actions.{dropped, pushed, Carries}
 use Rattle.actor_meaning.specs.declared.outcome.Request.TheVariants as s
 use Rattle.instruction_effects.specs.declared.effect.Effect.{Effect}
 use Rattle.instruction_effects.specs.declared.effect.Effect.TheVariants as e
-use Rattle.instruction_effects.specs.Effects.{Circumstance}
 use Rattle.member_accesses.specs.declared.reached.Reached.{Reached}
 use Rattle.member_accesses.specs.declared.reached.Reached.TheVariants as r
-
--- nothing has to be known of the channel and the actor
-abbrev pub Always : Circumstance
-Always image number homes = Unit {0}
 
 -- ---- the innermost call
 

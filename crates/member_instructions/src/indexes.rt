@@ -3,8 +3,7 @@ ghost use Rattle.std.specs.Prelude.{◌+◌, ◌<◌, ◌≤◌, length, IfOk};
 ghost use Rattle.frame_stack.specs.Frame.{operands_of};
 ghost use Rattle.brs_code.specs.declared.instr.Instr.TheVariants as i;
 ghost use Rattle.moving_instructions.specs.Behind.{HasPlaceBehind};
-ghost use Rattle.instruction_effects.specs.Effects.{Does};
-ghost use Rattle.member_instructions.specs.Settling.{Always};
+ghost use Rattle.instruction_effects.specs.Effects.{Does, Anywhere};
 
 use crate::settling::settle;
 use brs_heap::Heap;
@@ -28,7 +27,7 @@ pub fn index(
     requires there { 0 < length frames.old }
     requires operands { 2 ≤ length (operands_of frames.old) }
     requires inside { HasPlaceBehind frames.old }
-    ensures ok { IfOk result (λ effect. Does Always line heap.old frames.old heap.new frames.new effect i.Index) }
+    ensures ok { IfOk result (λ effect. Does Anywhere line heap.old frames.old heap.new frames.new effect i.Index) }
     ensures shares { heap.old.shares ≤ heap.new.shares + 1 }
 {
     let reached = read_index(alloc, heap, frames.last(2))?;
@@ -49,7 +48,7 @@ pub fn keep_index(
     requires there { 0 < length frames.old }
     requires operands { 2 ≤ length (operands_of frames.old) }
     requires inside { HasPlaceBehind frames.old }
-    ensures ok { IfOk result (λ effect. Does Always line heap.old frames.old heap.new frames.new effect i.KeepIndex) }
+    ensures ok { IfOk result (λ effect. Does Anywhere line heap.old frames.old heap.new frames.new effect i.KeepIndex) }
     ensures shares { heap.old.shares ≤ heap.new.shares + 1 }
 {
     let reached = read_index(alloc, heap, frames.last(2))?;
@@ -70,7 +69,7 @@ pub fn store_index(
     requires there { 0 < length frames.old }
     requires operands { 3 ≤ length (operands_of frames.old) }
     requires inside { HasPlaceBehind frames.old }
-    ensures ok { IfOk result (λ effect. Does Always line heap.old frames.old heap.new frames.new effect i.StoreIndex) }
+    ensures ok { IfOk result (λ effect. Does Anywhere line heap.old frames.old heap.new frames.new effect i.StoreIndex) }
     ensures shares { heap.old.shares ≤ heap.new.shares + 1 }
 {
     let reached = write_index(alloc, heap, frames.last(3))?;

@@ -19,7 +19,7 @@ use Rattle.frame_stack.specs.Frame.{Frame, operands_of}
 use Rattle.actor_meaning.specs.View.{Home}
 use Rattle.instruction_effects.specs.declared.effect.Effect.{Effect}
 use Rattle.instruction_effects.specs.declared.effect.Effect.TheVariants as e
-use Rattle.instruction_effects.specs.Effects.{Runs}
+use Rattle.instruction_effects.specs.Effects.{Runs, Anywhere}
 use Rattle.call_decisions.specs.declared.member_call.MemberCall.TheVariants as m
 use Rattle.call_decisions.specs.declared.built_in.BuiltInCall.TheVariants as b
 use Rattle.call_decisions.specs.Functions.{number_of}
@@ -27,7 +27,7 @@ use Rattle.call_decisions.specs.MemberCalls.{member_called}
 use Rattle.call_decisions.specs.MemberRows.{member_acts}
 use Rattle.call_decisions.specs.BuiltIns.{built_in_called}
 use Rattle.call_decisions.specs.CallRows.{number_acts}
-use Rattle.method_instructions.specs.Callees.{last_values, callee, IsBuiltIn, IsNoFunction, Always, Both}
+use Rattle.method_instructions.specs.Callees.{last_values, callee, IsBuiltIn, IsNoFunction, Both}
 use Rattle.method_instructions.specs.Operating.{GivesOf, OperatedOn}
 use Rattle.method_instructions.specs.Calling.{MethodCalled, BuiltInCalled, MemberBuiltInCalled}
 use Rattle.method_instructions.specs.Refusing.{MemberRefused, CallRefused, NumberRefused, MemberNumberRefused}
@@ -102,7 +102,7 @@ member_is_refused heap frames count error there = λ f line n k text decided.
 
 pub call_is_refused : (heap : Heap) (frames : List Frame) (count : ℕ) → count < length (operands_of frames) → CallRefused (e.Raises E5) heap frames count
 call_is_refused heap frames count there = λ line none.
-    faults_where Always line heap frames (i.Call count) E5
+    faults_where Anywhere line heap frames (i.Call count) E5
     (λ image number own always name homes frame waiting store seen.
     call_acted image number own heap count name homes frame waiting store frames there seen
     ∙ ap (λ d. number_acts d (setting_of image number homes frame) (map (meaning name) (last_values count frames)) store) none)

@@ -25,8 +25,5 @@ IsBuiltIn n name image number homes = (function_at image n ≡ None) × (built_i
 abbrev pub IsNoFunction : ℕ → Circumstance
 IsNoFunction n image number homes = (function_at image n ≡ None) × IfSome (built_in_at image n) (λ name. built_in_called name ≡ Nothing)
 
-abbrev pub Always : Circumstance
-Always image number homes = Unit {0}
-
 abbrev pub Both : Circumstance → Circumstance → Circumstance
 Both C D image number homes = C image number homes × D image number homes

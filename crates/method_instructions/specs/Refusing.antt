@@ -8,11 +8,11 @@ use Rattle.brs_code.specs.declared.instr.Instr.TheVariants as i
 use Rattle.brs_grammar.specs.Form.{Text}
 use Rattle.frame_stack.specs.Frame.{Frame}
 use Rattle.instruction_effects.specs.declared.effect.Effect.{Effect}
-use Rattle.instruction_effects.specs.Effects.{Runs, Does}
+use Rattle.instruction_effects.specs.Effects.{Runs, Does, Anywhere}
 use Rattle.call_decisions.specs.declared.member_call.MemberCall.TheVariants as m
 use Rattle.call_decisions.specs.Functions.{number_of}
 use Rattle.call_decisions.specs.MemberCalls.{member_called}
-use Rattle.method_instructions.specs.Callees.{callee, IsNoFunction, Always, Both}
+use Rattle.method_instructions.specs.Callees.{callee, IsNoFunction, Both}
 
 -- in a call of a function whose text n is a name that calls nothing
 abbrev pub MemberRefused : Effect → Heap → List Frame → (count : ℕ) → ErrorCode → Type 0
@@ -22,7 +22,7 @@ MemberRefused effect heap frames count error =
 
 -- where the value is no function
 abbrev pub CallRefused : Effect → Heap → List Frame → (count : ℕ) → Type 0
-CallRefused effect heap frames count = (line : ℕ) → number_of (plain_of (callee count frames)) ≡ None → Does Always line heap frames heap frames effect (i.Call count)
+CallRefused effect heap frames count = (line : ℕ) → number_of (plain_of (callee count frames)) ≡ None → Does Anywhere line heap frames heap frames effect (i.Call count)
 
 -- where the value's number is no function
 abbrev pub NumberRefused : Effect → Heap → List Frame → (count : ℕ) → Type 0

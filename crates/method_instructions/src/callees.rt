@@ -15,6 +15,7 @@ pub(crate) fn with_callee(frames: &FrameStack, count: usize) -> usize
     requires { count < length (operands_of frames.now) }
     ensures { result ≡ count + 1 }
 {
+    // The call tells that as many operands as there are can be counted, so one more than `count` can be.
     let _there = frames.operand_count();
     count + 1
 }

@@ -26,14 +26,14 @@ use Rattle.actor_meaning.specs.declared.phase.Phase.TheVariants.{Works}
 use Rattle.actor_meaning.specs.View.{Home, home_references, FrameIs, MachineIs, ActorIs}
 use Rattle.actor_meaning.specs.Performed.{working}
 use Rattle.actor_meaning.proofs.Moves.{operands_fewer}
-use Rattle.instruction_effects.specs.Effects.{Circumstance, Runs, FaultedWhere}
+use Rattle.instruction_effects.specs.Effects.{Circumstance, Runs, FaultedWhere, Anywhere}
 use Rattle.moving_instructions.proofs.Values.{last_seen}
 use Rattle.typed_values.specs.Taken.{LastTakenAs, Takes}
 use Rattle.typed_values.proofs.Bound.{runs_same, path_stays}
 use Rattle.return_instructions.specs.declared.leaving.Leaving.{Leaving}
 use Rattle.return_instructions.specs.declared.leaving.Leaving.TheVariants as way
 use Rattle.return_instructions.specs.Departed.{LeftAs, IsNoError, Departs}
-use Rattle.return_instructions.specs.Left.{LeavesCall, Anywhere}
+use Rattle.return_instructions.specs.Left.{LeavesCall}
 
 -- ---- what an instruction shows that leaves its call
 

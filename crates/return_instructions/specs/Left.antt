@@ -15,10 +15,6 @@ use Rattle.instruction_effects.specs.Effects.{Circumstance, FaultedWhere, waitin
 use Rattle.return_instructions.specs.declared.leaving.Leaving.{Leaving}
 use Rattle.return_instructions.specs.declared.leaving.Leaving.TheVariants as way
 
--- nothing has to be known
-abbrev pub Anywhere : Circumstance
-Anywhere image number homes = Unit {0}
-
 -- in this circumstance the innermost call of an actor at work performed the instruction of this line, and the actor is this one after it
 abbrev pub LeavesWhere : Circumstance → (line : ℕ) → (old : Heap) → (before : List Frame) → (new : Heap) → ((number : ℕ) → List Home → Actor) → Outcome → Instr → Type 0
 LeavesWhere C line old before new actor shown instr =

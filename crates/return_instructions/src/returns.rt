@@ -2,8 +2,8 @@
 ghost use Rattle.std.specs.Prelude.{◌≡◌, ℕ, ◌<◌, length, IfOk};
 ghost use Rattle.brs_code.specs.declared.instr.Instr.TheVariants as i;
 ghost use Rattle.frame_stack.specs.Frame.{operands_of};
-ghost use Rattle.instruction_effects.specs.Effects.{Runs};
-ghost use Rattle.return_instructions.specs.Left.{LeavesCall, Anywhere};
+ghost use Rattle.instruction_effects.specs.Effects.{Runs, Anywhere};
+ghost use Rattle.return_instructions.specs.Left.{LeavesCall};
 
 use crate::departure::leave;
 use crate::leaving::Leaving;
